@@ -6,14 +6,15 @@ use Rattle.ynl_resource.specs.Names.{root, same_name}
 use Rattle.ynl_resource.specs.declared.names.Name.{Name}
 use Rattle.ynl_resource.specs.declared.paths.Path.{Path}
 use Rattle.ynl_model.specs.Queues.{Config}
-use Rattle.ynl_model.specs.Cluster.{State}
+use Rattle.ynl_model.specs.Cluster.{State, guaranteed, masters_used, maximum, runs, used, user_used}
+use Rattle.ynl_model.specs.Limits.{master_limit, user_limit, users}
 use Rattle.ynl_layout.specs.Paths.{path_at}
 use Rattle.ynl_inventory.specs.Changes.{with_user, with_user_known}
 use Rattle.ynl_inventory.specs.Meaning.{label_at}
 use Rattle.ynl_inventory.specs.Rows.{PartitionRow, Rows}
 use Rattle.ynl_cluster.specs.Cluster.{ClusterView, state_in}
 use Rattle.ynl_resource.specs.declared.labels.Label.TheVariants.{Unlabelled}
-use Rattle.ynl_model.specs.Service.{asks_for}
+use Rattle.ynl_model.specs.Service.{asks_for, items_for, within_master_share, within_user_limit}
 use Rattle.ynl_search.specs.notes.Notes.{Notes, Row, Table, noted_at, noted_in}
 use Rattle.ynl_search.specs.notes.Shut.{AreAtLeast, AreShut, IsRight}
 
@@ -46,3 +47,13 @@ user-leaves name v = go (list_any (λ other. same_name other name) v.users)
     go : (b : Bool) → ((cond b v (with_user name v)).partitions ≡ v.partitions) × ((cond b v (with_user name v)).paths ≡ v.paths)
     go true = (refl, refl)
     go false = (refl, refl)
+
+-- what is noted does not hang on which queues are stopped
+pub stopped-shut : (w : ClusterView) (stops : List Bool) (notes : Notes) → AreShut w notes → AreShut (record w { stops = stops }) notes
+unfolding used maximum guaranteed user_used masters_used runs users user_limit master_limit asks_for items_for within_user_limit within_master_share
+stopped-shut w stops notes right = record {
+  own = λ p q cell.
+      let was = right.own p q (record { partition = cell.partition; queue = cell.queue }) in
+      record { room = was.room; least = was.least };
+  guests = right.guests;
+}

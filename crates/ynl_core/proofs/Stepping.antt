@@ -16,11 +16,10 @@ use Rattle.ynl_cluster.specs.Cluster.{ClusterView, label_of, path_of, state_in}
 use Rattle.std.proofs.lemmas.Bool.Decides.{nat_tests}
 use Rattle.ynl_resource.specs.Amounts.{fits_in, nothing}
 use Rattle.ynl_resource.specs.declared.amounts.Resource.{Resource}
-use Rattle.ynl_resource.specs.declared.labels.Label.{Label}
-use Rattle.ynl_resource.specs.declared.paths.Path.{Path}
 use Rattle.ynl_search.specs.declared.notes.noted.Noted.{Noted}
 use Rattle.ynl_search.specs.notes.Notes.{Changes, IsEmpty, Notes, forgotten, noted_in, nothing_noted}
 use Rattle.ynl_search.specs.notes.Shut.{AreShut, IsRight}
+use Rattle.ynl_search.proofs.notes.NodesKeeping.{nothing-right}
 use Rattle.ynl_core.specs.Reached.{WorksAndIsTold}
 use Rattle.ynl_core.specs.World.{Answers, World}
 
@@ -31,10 +30,6 @@ world_in w = record { config = w.config; state = state_in w }
 -- nothing is at most each amount
 all-above : (size : Resource) → fits_in nothing size ≡ true
 all-above size = grind (arith, nat_tests)
-
--- where nothing is noted that is right
-nothing-right : (c : Config) (s : State) (label : Label) (queue : Path) → IsRight c s label queue nothing_noted
-nothing-right c s label queue = record { room = tt; least = λ item below. all-above item.size }
 
 -- where all is forgotten what is noted is right
 pub none-shut : (w : ClusterView) (old new : Notes) → Changes forgotten old.own new.own → ((q : ℕ) → noted_in new.guests q ≡ nothing_noted) → AreShut w new

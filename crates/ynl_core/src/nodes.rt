@@ -32,8 +32,11 @@ impl Core {
         };
         // A size is one that requests may have, so that the state works after it, here and below.
         let _sized = size.amount();
+        // Opens the rows, before and after.
+        let _ = self.cluster.inventory();
         self.cluster.join(name, p, *size)?;
-        self.shut.forget_all();
+        let _ = self.cluster.inventory();
+        self.shut.forget(p);
         self.lists.forget_all();
         Ok(None)
     }
@@ -48,8 +51,11 @@ impl Core {
             Ok(node) => node,
             Err(refusal) => return Some(refusal),
         };
+        let p = self.cluster.inventory().node(node).partition;
         self.cluster.leave(node);
-        self.shut.forget_all();
+        // Opens the rows, which are sound.
+        let _ = self.cluster.inventory();
+        self.shut.forget(p);
         self.lists.forget_all();
         None
     }
@@ -70,8 +76,12 @@ impl Core {
             Ok(moved) => moved,
             Err(refusal) => return Ok(Some(refusal)),
         };
+        let p = self.cluster.inventory().node(moved.node).partition;
         self.cluster.relabel(moved.node, moved.partition)?;
-        self.shut.forget_all();
+        // Opens the rows, which are sound.
+        let _ = self.cluster.inventory();
+        self.shut.forget(p);
+        self.shut.forget(moved.partition);
         self.lists.forget_all();
         Ok(None)
     }

@@ -23,7 +23,6 @@ impl Core {
             Err(refusal) => return Some(refusal),
         };
         self.cluster.set_stopped(number, true);
-        self.shut.forget_all();
         self.lists.forget_all();
         None
     }
@@ -39,7 +38,6 @@ impl Core {
             Err(refusal) => return Some(refusal),
         };
         self.cluster.set_stopped(number, false);
-        self.shut.forget_all();
         self.lists.forget_all();
         None
     }

@@ -12,6 +12,8 @@ mod Keeping
 mod Leaving
 mod GuestsStay
 mod GuestKeeping
+mod Elsewhere
+pub mod NodesKeeping
 mod Forgetting
 mod Rowwise
 mod Told

@@ -91,6 +91,11 @@ module _ (P : Item → Type 0) (label : Label) where
       go app true changed as-it-was = changed
       go app false changed as-it-was = as-it-was
 
+-- ---- where none starts
+
+pub hold-fewer : (P : Item → Type 0) (label : Label) (s t : State) → t.leaves ≡ s.leaves → ((app : Application) → runs t app ≡ true → runs s app ≡ true) → AllHold P label s → AllHold P label t
+hold-fewer P label s t leaves fewer h = subst (AllByRecursion (RowHold P label t)) (sym leaves) (runs-on P label s t (λ row rows app own run. inl (fewer app run)) h)
+
 -- ---- placing
 
 -- of one more and others one passes, or that one does

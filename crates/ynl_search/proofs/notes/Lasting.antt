@@ -43,7 +43,7 @@ off queue step other apart below = go (is_within step other) refl
 -- ---- uses and maxima that stay
 
 -- where the same containers stand on a partition, and their leaves are found as before, a queue uses as much
-used-agrees : (s t : State) (label : Label) (queue : Path) → containers_on t label ≡ containers_on s label
+pub used-agrees : (s t : State) (label : Label) (queue : Path) → containers_on t label ≡ containers_on s label
     → AllByRecursion (λ k. leaf_of t.leaves k.tenant k.app ≡ leaf_of s.leaves k.tenant k.app) (containers_on t label) → used t queue label ≡ used s queue label
 unfolding used
 used-agrees s t label queue on found =
@@ -51,7 +51,7 @@ used-agrees s t label queue on found =
     (filter-agree (λ k. leaf_of t.leaves k.tenant k.app ≡ leaf_of s.leaves k.tenant k.app) (counts t.leaves queue) (counts s.leaves queue) (λ k e i. not (is_guest k) && option_map_or (is_within queue) (e i) false) (containers_on t label) found
     ∙ ap (filter (counts s.leaves queue)) on)
 
-maximum-agrees : (s t : State) (label : Label) (queue : Path) → total_on t.nodes label ≡ total_on s.nodes label → t.maxima ≡ s.maxima → maximum t queue label ≡ maximum s queue label
+pub maximum-agrees : (s t : State) (label : Label) (queue : Path) → total_on t.nodes label ≡ total_on s.nodes label → t.maxima ≡ s.maxima → maximum t queue label ≡ maximum s queue label
 unfolding maximum
 maximum-agrees s t label queue nodes maxima = λ i. maximum_of (maxima i) queue label (nodes i)
 

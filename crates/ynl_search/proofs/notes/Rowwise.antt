@@ -8,7 +8,7 @@ use Rattle.ynl_resource.specs.declared.amounts.Resource.{Resource}
 use Rattle.ynl_inventory.proofs.PartLists.{set-other, set-same}
 use Rattle.ynl_search.specs.declared.notes.row.Row.{Row as RowPart}
 use Rattle.ynl_search.specs.declared.notes.noted.Noted.{Noted}
-use Rattle.ynl_search.specs.notes.Notes.{Changes, AreEmpty, Row, Table, forgotten, has_at, has_in, more_where, noted, noted_at, noted_in, nothing_noted, row_of, with_more}
+use Rattle.ynl_search.specs.notes.Notes.{Changes, AreEmpty, Row, Table, forgotten, forgotten_on, has_at, has_in, more_where, noted, noted_at, noted_in, nothing_noted, row_of, with_more}
 
 abbrev Change : Type 0
 Change = ℕ → ℕ → Noted → Noted
@@ -180,6 +180,19 @@ noted-row rows p queue more old new at has is =
     go r t true e =
         let same : r ≡ p = grind (arith, nat_tests, e) in
         ap (λ b. cond (b && nat_eq t queue) more (noted_at (notes_of rows) r t)) (sym (has-row rows p t old at) ∙ ap (λ n. has_at (notes_of rows) n t) (sym same))
+    go r t false e = refl
+
+-- a row is forgotten
+pub row-forgotten : (rows : List RowPart) (p : ℕ) (old new : RowPart) → slice_get rows p ≡ Some old → ((q : ℕ) → has_in (row_of new) q ≡ has_in (row_of old) q) → ((q : ℕ) → noted_in (row_of new) q ≡ nothing_noted)
+    → Changes (forgotten_on p) (notes_of rows) (notes_of (set rows p new))
+row-forgotten rows p old new at has is = row-changes rows p old new (λ t before. nothing_noted) at has is
+
+-- where there is no row there is nothing to forget
+pub none-forgotten : (rows : List RowPart) (p : ℕ) → nat_lt p (length rows) ≡ false → Changes (forgotten_on p) (notes_of rows) (notes_of rows)
+none-forgotten rows p beyond = record { has = λ r t. refl; noted = λ r t. go r t (nat_eq r p) refl }
+  where
+    go : (r t : ℕ) (b : Bool) → nat_eq r p ≡ b → noted_at (notes_of rows) r t ≡ cond b nothing_noted (noted_at (notes_of rows) r t)
+    go r t true e = let same : r ≡ p = grind (arith, nat_tests, e) in beyond-rows rows r t (ap (λ n. nat_lt n (length rows)) same ∙ beyond)
     go r t false e = refl
 
 -- all rows are forgotten, one after another

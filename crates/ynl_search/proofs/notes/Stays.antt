@@ -51,7 +51,7 @@ comparable (x ∷ a) (y ∷ b) (z ∷ path) at bt =
     go d e (inl h) = inl (λ i. ((ap (λ n. same_name n y) (d ∙ sym e) ∙ same-name_self y) i) && h i)
     go d e (inr h) = inr (λ i. ((ap (λ n. same_name n x) (e ∙ sym d) ∙ same-name_self x) i) && h i)
 
-nothing-fits : (size : Resource) → fits_in nothing size ≡ true
+pub nothing-fits : (size : Resource) → fits_in nothing size ≡ true
 nothing-fits size = λ i. least size.memory i && least size.vcores i
   where
     least : (n : ℕ) → nat_le 0 n ≡ true

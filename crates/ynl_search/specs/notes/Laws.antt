@@ -11,7 +11,7 @@ use Rattle.ynl_model.specs.declared.containers.Placed.{Placed as Container}
 use Rattle.ynl_model.specs.Queues.{Config}
 use Rattle.ynl_model.specs.Applications.{Application, in_leaf, leaf_of, set_ask, submitted, with_app}
 use Rattle.ynl_model.specs.Changes.{app_finishes, end, place}
-use Rattle.ynl_model.specs.Cluster.{State, containers_on, is_master_what}
+use Rattle.ynl_model.specs.Cluster.{State, containers_on, is_master_what, runs, total}
 use Rattle.ynl_model.specs.Service.{Item, items_for}
 use Rattle.ynl_laws.specs.Tabled.{Tabled}
 use Rattle.ynl_laws.specs.Working.{IsKnown, IsOrdered, Kept, has_row}
@@ -84,3 +84,19 @@ abbrev pub StaysWhileFinishing : Type 0
 StaysWhileFinishing = (c : Config) (s : State) (found : Application) (label : Label) (queue : Path) → AreReadable s (app_finishes c found s)
     → IsOrdered c s → IsKnown s.leaves found.leaf found.name → is_within queue found.leaf ≡ false
     → Stays c s (app_finishes c found s) label queue
+
+-- no application starts to run, and otherwise they stay
+pub record NoneStarts (s t : State) : Type 0 where
+  pub leaves : t.leaves ≡ s.leaves
+  pub runs : (app : Application) → runs t app ≡ true → runs s app ≡ true
+
+-- on a partition the same containers stand, and it has the same total
+pub record StandsStill (s t : State) (label : Label) : Type 0 where
+  pub apps : NoneStarts s t
+  pub on : containers_on t label ≡ containers_on s label
+  pub total : total t label ≡ total s label
+  pub maxima : t.maxima ≡ s.maxima
+
+-- a partition stands still
+abbrev pub StaysStill : Type 0
+StaysStill = (c : Config) (s t : State) (label : Label) (queue : Path) → AreReadable s t → StandsStill s t label → Stays c s t label queue

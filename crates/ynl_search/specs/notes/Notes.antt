@@ -69,6 +69,10 @@ more_where come low r t before = if come r t then with_more low before else befo
 abbrev pub forgotten : ℕ → ℕ → Noted → Noted
 forgotten r t before = nothing_noted
 
+-- what is noted on a partition is forgotten
+abbrev pub forgotten_on : ℕ → ℕ → ℕ → Noted → Noted
+forgotten_on p r t before = if nat_eq r p then nothing_noted else before
+
 -- nothing is noted, and there are places for so many queues on so many partitions
 pub record AreEmpty (partitions queues : ℕ) (table : Table) : Type 0 where
   pub has : (p q : ℕ) → has_at table p q ≡ (nat_lt p partitions && nat_lt q queues)

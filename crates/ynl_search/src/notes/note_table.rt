@@ -2,7 +2,7 @@
 
 ghost use Rattle.std.specs.Prelude.{◌≡◌, [], IfOk, ◌&&◌, nat_eq};
 ghost use Rattle.ynl_laws.specs.Ways.{has_number};
-ghost use Rattle.ynl_search.specs.notes.Notes.{forgotten, more_where, noted, noted_at, AreEmpty, Changes};
+ghost use Rattle.ynl_search.specs.notes.Notes.{forgotten, forgotten_on, more_where, noted, noted_at, AreEmpty, Changes};
 
 use crate::notes::noted::Noted;
 use crate::notes::row::{Row, change, note, noted_in, unknown};
@@ -86,6 +86,16 @@ impl NoteTable {
             return;
         }
         change(&mut self.rows[p as usize], queues, low);
+    }
+
+    /// What is noted on a partition is forgotten.
+    pub(crate) fn forget(&mut self, p: u8)
+        ensures { Changes (forgotten_on p) self.old self.new }
+    {
+        if p as usize >= self.rows.len() {
+            return;
+        }
+        self.rows[p as usize].known = false;
     }
 
     /// All is forgotten.

@@ -2,7 +2,7 @@
 
 ghost use Rattle.std.specs.Prelude.{◌≡◌, ℕ, IfOk, None, ◌&&◌, nat_eq, if◌then◌else◌};
 ghost use Rattle.ynl_laws.specs.Ways.{has_number};
-ghost use Rattle.ynl_search.specs.notes.Notes.{forgotten, has_in, more_where, no_notes, noted, noted_at, noted_in, nothing_noted, with_more, Changes, IsEmpty};
+ghost use Rattle.ynl_search.specs.notes.Notes.{forgotten, forgotten_on, has_in, more_where, no_notes, noted, noted_at, noted_in, nothing_noted, with_more, Changes, IsEmpty};
 
 use crate::notes::note_table::NoteTable;
 use crate::notes::noted::Noted;
@@ -79,6 +79,14 @@ impl Shut {
         ensures guests { self.new.guests ≡ self.old.guests }
     {
         self.own.change(p, queues, low);
+    }
+
+    /// What is noted of the queues on a partition is forgotten; what is noted of guests is kept.
+    pub fn forget(&mut self, p: u8)
+        ensures own { Changes (forgotten_on p) self.old.own self.new.own }
+        ensures guests { self.new.guests ≡ self.old.guests }
+    {
+        self.own.forget(p);
     }
 
     /// All is forgotten.
