@@ -6,5 +6,6 @@ pub use number::MaybeRow;
 pub use slots::Slots;
 
 mod chain;
+mod growth;
 mod number;
 mod slots;

@@ -6,6 +6,7 @@ ghost use Rattle.std.specs.Borrow.{Lends, sem};
 ghost use Rattle.ynl_slots.specs.Slots.{number_in, IsLive, IsAfter, IsUnused, IsOnly, HasDistinctNumbers, without};
 ghost use Rattle.ynl_slots.specs.Kept.{after_of, after_set, before_of, before_set, changed, filled, row_in, row_of, slot_at, slot_with, CanFill, Fills};
 
+use crate::growth::grows_by;
 use crate::number::{END, MaybeRow};
 use std::alloc::{AllocError, Global};
 use std::marker::Model;
@@ -123,10 +124,10 @@ impl<T> Slots<T> {
         if self.len >= u32::MAX as usize {
             return Err(AllocError);
         }
-        if self.len < self.slots.len() {
+        if self.len < self.slots.capacity() {
             return Ok(());
         }
-        self.slots.reserve(1)
+        self.slots.reserve(grows_by(self.len))
     }
 
     /// Reserves room for so many more rows. It fails if memory is refused, and past 2^32 - 1 rows.
