@@ -4,11 +4,9 @@ use Rattle.std.specs.Map.{lookup}
 use Rattle.std.specs.Option.{option_map_or}
 use Rattle.std.proofs.lemmas.Bool.{and_parts, cases_eq}
 use Rattle.std.proofs.lemmas.Bool.Decides.{nat_tests}
-use Rattle.std.proofs.lemmas.Option.{same_Some}
 use Rattle.ynl_resource.specs.declared.amounts.Resource.{Resource}
 use Rattle.ynl_resource.specs.Amounts.{nothing}
-use Rattle.ynl_slots.specs.Slots.{IsOnly, HasDistinctNumbers, with_row}
-use Rattle.ynl_slots.proofs.Lookups.{only_from_distinct}
+use Rattle.ynl_slots.specs.Slots.{HasDistinctNumbers, with_row}
 use Rattle.ynl_lanes.specs.lows.Lows.{no_size}
 use Rattle.ynl_lanes.specs.declared.lane.kinds.Kind.{Kind}
 use Rattle.ynl_lanes.specs.declared.lane.kinds.Kind.TheVariants.{Master, Ask}
@@ -18,27 +16,18 @@ use Rattle.ynl_lanes.specs.declared.lane.levels.Level.TheVariants.{Lane, User}
 use Rattle.ynl_lanes.specs.declared.lane.rows.SeatRow.{SeatRow}
 use Rattle.ynl_lanes.specs.declared.lane.rows.UserRow.{UserRow}
 use Rattle.ynl_lanes.specs.declared.lane.rows.Rows.{Rows}
-use Rattle.ynl_lanes.specs.lane.Changes.{SetsWaits, SetsValues, SetsUsed, shown, ShowSame, ShowsOther}
+use Rattle.ynl_lanes.specs.lane.Changes.{SetsWaits, AreValues, SetsValues, SetsUsed, shown, ShowSame, ShowsOther}
 use Rattle.ynl_lanes.specs.lane.Kinds.{of_kind}
-use Rattle.ynl_lanes.specs.lane.Levels.{slot_in, IsIn, IsBefore, AreIn}
+use Rattle.ynl_lanes.specs.lane.Levels.{AreIn}
 use Rattle.ynl_lanes.specs.lane.Lines.{values_of, IsLine}
 use Rattle.ynl_lanes.specs.lane.Found.{EachSeat}
-use Rattle.ynl_lanes.specs.lane.Rows.{of_user, own_tickets, own_values, used_by, tickets_in, HasWaits, EachUser, IsUse, IsUserRow, IsSeated, IsStood, AreStoodBut, IsKept}
+use Rattle.ynl_lanes.specs.lane.Rows.{of_user, own_tickets, own_values, used_by, waits_in, WaitSame, tickets_in, EachUser, IsUse, IsUserRow, IsSeated, IsStood, AreStoodBut, IsKept}
 use Rattle.ynl_lanes.specs.lane.Waiting.{IsWaiting}
-use Rattle.ynl_lanes.proofs.lane.Lists.{found_written, found_other, each_written, all_written, ordered_written, distinct_with_row, with_row-same}
+use Rattle.ynl_lanes.proofs.lane.Lists.{found_written, found_other, each_written}
 use Rattle.ynl_lanes.proofs.lane.Found.{one_at}
 use Rattle.ynl_lanes.proofs.lane.Searching.{own_slot-in, own_line, own_value}
 use Rattle.ynl_lanes.proofs.lane.Stood.{line_changed}
 use Rattle.ynl_lanes.specs.lows.Users.{no_user, IsBelowRequest}
-
--- a seat that stays in its slots
-pub in_written : (level : Level) (tickets : List ℕ) (ticket : ℕ) (row next : SeatRow) (seats : List (ℕ × SeatRow)) → AreIn level tickets seats → IsOnly ticket row seats → slot_in level next ≡ slot_in level row → AreIn level tickets (with_row ticket next seats)
-in_written level tickets ticket row next seats h only same = record {
-  in_line = all_written (IsIn level tickets) (IsIn level tickets) ticket next row seats only
-      (λ e is row_is key slot at. is slot (ap (slot_in level) row_is ∙ sym same ∙ at) ∙ ap Some key) (λ e is. is) h.in_line;
-  ordered = ordered_written (IsBefore level) ticket next row seats only
-      (λ e before m n at there. before m n (sym same ∙ at) there) (λ e before m n at there. before m n at (sym same ∙ there)) h.ordered;
-}
 
 -- something of a user whose row is another one, and of the other users
 pub of_written : {X : Type 0} (f : UserRow → X) (none : X) (user : ℕ) (row next : UserRow) (users : List (ℕ × UserRow)) → lookup (nat_eq user) users ≡ Some row → of_user f none user (with_row user next users) ≡ f next
@@ -65,7 +54,7 @@ shown_written user row next users found same other = ⊎_elim
     (cases_eq other user)
 
 -- other things wait at a seat
-module _ (rows new : Rows) (kept : IsKept rows) (ticket : ℕ) (waits : Both Resource) (row : SeatRow) (found : lookup (nat_eq ticket) rows.seats.entries ≡ Some row) (seats : new.seats.entries ≡ with_row ticket (record row { waits = waits }) rows.seats.entries)
+module _ (rows new : Rows) (kept : IsKept rows) (ticket : ℕ) (waits : Both Resource) (row : SeatRow) (found : lookup (nat_eq ticket) rows.seats.entries ≡ Some row) (seats : new.seats ≡ rows.seats)
     (values : SetsValues row.user row.own_slot waits rows.users.entries new.users.entries) (line : new.line ≡ rows.line) where
   next_values : (kind : Kind) → values_of kind values.next.line ≡ set (values_of kind values.row.line) row.own_slot (of_kind kind waits)
   next_values Master = values.masters
@@ -77,25 +66,30 @@ module _ (rows new : Rows) (kept : IsKept rows) (ticket : ℕ) (waits : Both Res
   own_old : (kind : Kind) → own_values kind row.user rows.users.entries ≡ values_of kind values.row.line
   own_old kind = ap (λ o. option_map_or (λ (r : UserRow). values_of kind r.line) o []) values.found
 
-  waits_here : HasWaits new.users.entries ticket (record row { waits = waits })
+  waits_here : (kind : Kind) → waits_in kind new.users.entries row ≡ of_kind kind waits
   waits_here kind =
       let inside = (own_value rows kept.seated kind row.user values.row values.found ticket row found refl).0 in
       ap (λ vs. get_or vs row.own_slot no_size) (own_new kind) ∙ get_or-set_same (values_of kind values.row.line) row.own_slot (of_kind kind waits) no_size inside
 
-  waits_there : (n : ℕ) (x : SeatRow) → n ≢ ticket → lookup (nat_eq n) rows.seats.entries ≡ Some x → HasWaits rows.users.entries n x → HasWaits new.users.entries n x
-  waits_there n x apart there h kind = ⊎_elim own other (cases_eq x.user row.user)
+  -- another user's line stays
+  waits_away : (x : SeatRow) → x.user ≢ row.user → WaitSame rows.users.entries new.users.entries x
+  waits_away x away kind = ap (λ vs. get_or vs x.own_slot no_size) (ap (own_values kind x.user) values.entries ∙ of_other (λ (r : UserRow). values_of kind r.line) [] x.user row.user values.next rows.users.entries away)
+
+  -- and no other seat of the user stands in that slot
+  waits_there : (n : ℕ) (x : SeatRow) → n ≢ ticket → lookup (nat_eq n) rows.seats.entries ≡ Some x → WaitSame rows.users.entries new.users.entries x
+  waits_there n x apart there kind = ⊎_elim own (λ away. waits_away x away kind) (cases_eq x.user row.user)
     where
-      own : x.user ≡ row.user → get_or (own_values kind x.user new.users.entries) x.own_slot no_size ≡ of_kind kind x.waits
+      own : x.user ≡ row.user → waits_in kind new.users.entries x ≡ waits_in kind rows.users.entries x
       own same =
           let away : x.own_slot ≢ row.own_slot = λ at. (
           let line = own_line rows kept.seated row.user values.row values.found in
           apart (one_at (User row.user) values.row.line.tickets rows.seats.entries n ticket row.own_slot x row line.1 there (own_slot-in row.user x same ∙ ap Some at) found (own_slot-in row.user row refl)).0) in
           ap (λ k. get_or (own_values kind k new.users.entries) x.own_slot no_size) same ∙ ap (λ vs. get_or vs x.own_slot no_size) (own_new kind)
           ∙ get_or-set_other (values_of kind values.row.line) row.own_slot x.own_slot (of_kind kind waits) no_size away
-          ∙ ap (λ vs. get_or vs x.own_slot no_size) (sym (own_old kind)) ∙ ap (λ k. get_or (own_values kind k rows.users.entries) x.own_slot no_size) (sym same) ∙ h kind
+          ∙ ap (λ vs. get_or vs x.own_slot no_size) (sym (own_old kind)) ∙ ap (λ k. get_or (own_values kind k rows.users.entries) x.own_slot no_size) (sym same)
 
-      other : x.user ≢ row.user → get_or (own_values kind x.user new.users.entries) x.own_slot no_size ≡ of_kind kind x.waits
-      other away = ap (λ vs. get_or vs x.own_slot no_size) (ap (own_values kind x.user) values.entries ∙ of_other (λ (r : UserRow). values_of kind r.line) [] x.user row.user values.next rows.users.entries away) ∙ h kind
+  pub waits_entered : SetsWaits ticket waits rows.seats.entries rows.users.entries new.users.entries
+  waits_entered = record { row = row; found = found; own = waits_here; others = λ n x there apart. waits_there n x apart there }
 
   next_row : IsUserRow row.user values.next
   next_row =
@@ -107,43 +101,31 @@ module _ (rows new : Rows) (kept : IsKept rows) (ticket : ℕ) (waits : Both Res
 
   pub seated_entered : IsSeated new
   seated_entered = record {
-    distinct = subst HasDistinctNumbers (sym seats) (distinct_with_row ticket (record row { waits = waits }) rows.seats.entries kept.seated.distinct);
+    distinct = subst (λ s. HasDistinctNumbers s.entries) (sym seats) kept.seated.distinct;
     lines = lines;
-    waits = subst (λ es. EachSeat (HasWaits new.users.entries) es) (sym seats) (each_written (HasWaits rows.users.entries) (HasWaits new.users.entries) ticket (record row { waits = waits }) row rows.seats.entries found waits_here waits_there kept.seated.waits);
     line = subst IsLine (sym line) kept.seated.line;
     users = subst (EachUser IsUserRow) (sym values.entries) (users_written row.user values.row values.next rows.users.entries values.found next_row kept.seated.users);
   }
     where
-      only : IsOnly ticket row rows.seats.entries
-      only = only_from_distinct ticket row rows.seats.entries kept.seated.distinct found
-
       lines : (level : Level) → AreIn level (tickets_in level new) new.seats.entries
-      lines Lane = subst (λ ts. AreIn Lane ts new.seats.entries) (sym (ap (λ l. l.tickets) line)) (subst (AreIn Lane rows.line.tickets) (sym seats) (in_written Lane rows.line.tickets ticket row (record row { waits = waits }) rows.seats.entries (kept.seated.lines Lane) only refl))
+      lines Lane = subst (λ l. AreIn Lane l.tickets new.seats.entries) (sym line) (subst (λ s. AreIn Lane rows.line.tickets s.entries) (sym seats) (kept.seated.lines Lane))
       lines (User user) = subst (λ ts. AreIn (User user) ts new.seats.entries) (sym (ap (own_tickets user) values.entries ∙ same_tickets row.user values.row values.next rows.users.entries values.found values.tickets user))
-          (subst (AreIn (User user) (own_tickets user rows.users.entries)) (sym seats) (in_written (User user) (own_tickets user rows.users.entries) ticket row (record row { waits = waits }) rows.seats.entries (kept.seated.lines (User user)) only refl))
+          (subst (λ s. AreIn (User user) (own_tickets user rows.users.entries) s.entries) (sym seats) (kept.seated.lines (User user)))
 
   pub but_entered : (kind : Kind) → AreStoodBut row.user kind new
   but_entered kind =
-      subst (λ es. EachSeat (λ _ e. e.user ≢ row.user → IsWaiting (of_kind kind e.waits) → IsStood kind es new.users.entries (values_of kind new.line) e) es) (sym seats)
-      (subst (λ l. EachSeat (λ _ e. e.user ≢ row.user → IsWaiting (of_kind kind e.waits) → IsStood kind (with_row ticket (record row { waits = waits }) rows.seats.entries) new.users.entries (values_of kind l) e) (with_row ticket (record row { waits = waits }) rows.seats.entries)) (sym line)
-      (each_written (λ _ e. IsWaiting (of_kind kind e.waits) → IsStood kind rows.seats.entries rows.users.entries (values_of kind rows.line) e)
-      (λ _ e. e.user ≢ row.user → IsWaiting (of_kind kind e.waits) → IsStood kind (with_row ticket (record row { waits = waits }) rows.seats.entries) new.users.entries (values_of kind rows.line) e)
-      ticket (record row { waits = waits }) row rows.seats.entries found (λ away waiting. absurd (away refl)) (λ n e apart there h away waiting. others e away (h waiting)) (kept.stood kind)))
-    where
-      others : (e : SeatRow) → e.user ≢ row.user → IsStood kind rows.seats.entries rows.users.entries (values_of kind rows.line) e → IsStood kind (with_row ticket (record row { waits = waits }) rows.seats.entries) new.users.entries (values_of kind rows.line) e
-      others e away h =
-          let apart : h.ticket ≢ ticket = λ same. (
-          let is : h.stand ≡ row = same_Some _ _ (sym h.found ∙ ap (λ k. lookup (nat_eq k) rows.seats.entries) same ∙ found) in
-          away (sym h.user ∙ ap (λ (x : SeatRow). x.user) is)) in
-          record {
-            ticket = h.ticket;
-            stand = h.stand;
-            found = found_other h.ticket ticket (record row { waits = waits }) rows.seats.entries apart ∙ h.found;
-            user = h.user;
-            waits = h.waits;
-            front = h.front;
-            low = subst (λ u. IsBelowRequest (get_or (values_of kind rows.line) h.stand.slot no_user) u (of_kind kind e.waits)) (sym (ap (used_by e.user) values.entries ∙ of_other (λ (r : UserRow). r.used) nothing e.user row.user values.next rows.users.entries away)) h.low;
-          }
+      subst (λ s. EachSeat (λ _ e. e.user ≢ row.user → IsWaiting (waits_in kind new.users.entries e) → IsStood kind s.entries new.users.entries (values_of kind new.line) e) s.entries) (sym seats)
+      (subst (λ l. EachSeat (λ _ e. e.user ≢ row.user → IsWaiting (waits_in kind new.users.entries e) → IsStood kind rows.seats.entries new.users.entries (values_of kind l) e) rows.seats.entries) (sym line)
+      (λ n e there away waiting. (let h = kept.stood kind n e there (subst IsWaiting (waits_away e away kind) waiting) in record {
+        ticket = h.ticket;
+        stand = h.stand;
+        found = h.found;
+        user = h.user;
+        waits = subst IsWaiting (sym (waits_away h.stand (λ same. away (sym h.user ∙ same)) kind)) h.waits;
+        front = h.front;
+        low = subst (λ u. IsBelowRequest (get_or (values_of kind rows.line) h.stand.slot no_user) u (waits_in kind new.users.entries e)) (sym (ap (used_by e.user) values.entries ∙ of_other (λ (r : UserRow). r.used) nothing e.user row.user values.next rows.users.entries away))
+            (subst (IsBelowRequest (get_or (values_of kind rows.line) h.stand.slot no_user) (used_by e.user rows.users.entries)) (sym (waits_away e away kind)) h.low);
+      })))
 
   pub shown_entered : ShowSame rows.users.entries new.users.entries
   shown_entered other = ap (λ us. option_map shown (lookup (nat_eq other) us)) values.entries ∙ shown_written row.user values.row values.next rows.users.entries values.found (λ i. record { user = values.user_is i; used = values.used i; live = values.live i }) other
@@ -156,11 +138,13 @@ module _ (rows new : Rows) (kept : IsKept rows) (user : ℕ) (used : Resource) (
       (λ apart. of_other (λ (r : UserRow). values_of kind r.line) [] other user (record sets.row { used = used }) rows.users.entries apart)
       (cases_eq other user)
 
+  pub waits_used : (e : SeatRow) → WaitSame rows.users.entries new.users.entries e
+  waits_used e kind = ap (λ vs. get_or vs e.own_slot no_size) (same_values kind e.user)
+
   pub seated_used : IsSeated new
   seated_used = record {
     distinct = subst (λ s. HasDistinctNumbers s.entries) (sym seats) kept.seated.distinct;
     lines = lines;
-    waits = subst (λ s. EachSeat (HasWaits new.users.entries) s.entries) (sym seats) (λ n e there kind. ap (λ vs. get_or vs e.own_slot no_size) (same_values kind e.user) ∙ kept.seated.waits n e there kind);
     line = subst IsLine (sym line) kept.seated.line;
     users = subst (EachUser IsUserRow) (sym sets.entries) (users_written user sets.row (record sets.row { used = used }) rows.users.entries sets.found (record { line = (kept.seated.users user sets.row sets.found).line; small = small }) kept.seated.users);
   }
@@ -172,16 +156,17 @@ module _ (rows new : Rows) (kept : IsKept rows) (user : ℕ) (used : Resource) (
 
   pub but_used : (kind : Kind) → AreStoodBut user kind new
   but_used kind =
-      subst (λ s. EachSeat (λ _ e. e.user ≢ user → IsWaiting (of_kind kind e.waits) → IsStood kind s.entries new.users.entries (values_of kind new.line) e) s.entries) (sym seats)
-      (subst (λ l. EachSeat (λ _ e. e.user ≢ user → IsWaiting (of_kind kind e.waits) → IsStood kind rows.seats.entries new.users.entries (values_of kind l) e) rows.seats.entries) (sym line)
-      (λ n e there away waiting. (let h = kept.stood kind n e there waiting in record {
+      subst (λ s. EachSeat (λ _ e. e.user ≢ user → IsWaiting (waits_in kind new.users.entries e) → IsStood kind s.entries new.users.entries (values_of kind new.line) e) s.entries) (sym seats)
+      (subst (λ l. EachSeat (λ _ e. e.user ≢ user → IsWaiting (waits_in kind new.users.entries e) → IsStood kind rows.seats.entries new.users.entries (values_of kind l) e) rows.seats.entries) (sym line)
+      (λ n e there away waiting. (let h = kept.stood kind n e there (subst IsWaiting (waits_used e kind) waiting) in record {
         ticket = h.ticket;
         stand = h.stand;
         found = h.found;
         user = h.user;
-        waits = h.waits;
+        waits = subst IsWaiting (sym (waits_used h.stand kind)) h.waits;
         front = h.front;
-        low = subst (λ u. IsBelowRequest (get_or (values_of kind rows.line) h.stand.slot no_user) u (of_kind kind e.waits)) (sym (ap (used_by e.user) sets.entries ∙ of_other (λ (r : UserRow). r.used) nothing e.user user (record sets.row { used = used }) rows.users.entries away)) h.low;
+        low = subst (λ u. IsBelowRequest (get_or (values_of kind rows.line) h.stand.slot no_user) u (waits_in kind new.users.entries e)) (sym (ap (used_by e.user) sets.entries ∙ of_other (λ (r : UserRow). r.used) nothing e.user user (record sets.row { used = used }) rows.users.entries away))
+            (subst (IsBelowRequest (get_or (values_of kind rows.line) h.stand.slot no_user) (used_by e.user rows.users.entries)) (sym (waits_used e kind)) h.low);
       })))
 
   pub shown_used : ShowsOther user (λ s. record s { used = used }) rows.users.entries new.users.entries
@@ -204,12 +189,18 @@ both-same a b master ask = λ i. record { master = amount-same a.master b.master
         let v : x.vcores ≡ y.vcores = grind (arith, nat_tests) in
         λ i. record { memory = m i; vcores = v i }
 
--- where the same is entered that waits at a seat, the seats are as before
-pub waits-same : (ticket : ℕ) (row : SeatRow) (waits : Both Resource) (es : List (ℕ × SeatRow)) → HasDistinctNumbers es → lookup (nat_eq ticket) es ≡ Some row
-    → ((nat_eq row.waits.master.memory waits.master.memory && nat_eq row.waits.master.vcores waits.master.vcores) ≡ true)
-    → ((nat_eq row.waits.ask.memory waits.ask.memory && nat_eq row.waits.ask.vcores waits.ask.vcores) ≡ true) → SetsWaits ticket waits es es
-waits-same ticket row waits es distinct found master ask = record {
-  row = row;
-  found = found;
-  entries = sym (ap (λ w. with_row ticket (record row { waits = w }) es) (sym (both-same row.waits waits master ask)) ∙ with_row-same ticket row es (only_from_distinct ticket row es distinct found));
-}
+-- where the same is entered that waits at a seat, all is as before
+pub same_values_at : (user slot : ℕ) (row : UserRow) (users : List (ℕ × UserRow)) (values waits : Both Resource) → lookup (nat_eq user) users ≡ Some row → values.master ≡ get_or row.line.masters slot no_size → values.ask ≡ get_or row.line.asks slot no_size
+    → ((nat_eq values.master.memory waits.master.memory && nat_eq values.master.vcores waits.master.vcores) ≡ true)
+    → ((nat_eq values.ask.memory waits.ask.memory && nat_eq values.ask.vcores waits.ask.vcores) ≡ true) → AreValues user slot waits users
+same_values_at user slot row users values waits found master ask same also kind = each kind
+  where
+    both : values ≡ waits
+    both = both-same values waits same also
+
+    each : (kind : Kind) → get_or (own_values kind user users) slot no_size ≡ of_kind kind waits
+    each Master = ap (λ o. get_or (option_map_or (λ (r : UserRow). r.line.masters) o []) slot no_size) found ∙ sym master ∙ ap (λ b. b.master) both
+    each Ask = ap (λ o. get_or (option_map_or (λ (r : UserRow). r.line.asks) o []) slot no_size) found ∙ sym ask ∙ ap (λ b. b.ask) both
+
+pub waits_same : (ticket : ℕ) (row : SeatRow) (waits : Both Resource) (seats : List (ℕ × SeatRow)) (users : List (ℕ × UserRow)) → lookup (nat_eq ticket) seats ≡ Some row → AreValues row.user row.own_slot waits users → SetsWaits ticket waits seats users users
+waits_same ticket row waits seats users found same = record { row = row; found = found; own = same; others = λ n e there apart kind. refl }

@@ -13,15 +13,16 @@ use Rattle.ynl_lanes.specs.declared.lane.rows.SeatRow.{SeatRow}
 use Rattle.ynl_lanes.specs.declared.lane.rows.UserRow.{UserRow}
 use Rattle.ynl_lanes.specs.declared.lane.rows.Rows.{Rows}
 use Rattle.ynl_lanes.specs.declared.lane.search.Found.{Found}
-use Rattle.ynl_lanes.specs.lane.Fields.{seat_of}
+use Rattle.ynl_lanes.specs.lane.Fields.{both_in, seat_of}
 use Rattle.ynl_lanes.specs.lane.Kinds.{of_kind}
 use Rattle.ynl_lanes.specs.lane.Levels.{IsBefore, AreOrdered}
-use Rattle.ynl_lanes.specs.lane.Rows.{IsKept}
+use Rattle.ynl_lanes.specs.lane.Rows.{used_by, IsKept}
 use Rattle.ynl_lanes.specs.lane.Search.{NoneBefore, IsFirstGiven, MayHaveGiven, WaitsAt}
+use Rattle.ynl_lanes.specs.lane.Waiting.{IsWaiting}
 use Rattle.ynl_lanes.specs.lane.Seats.{Seat, is_waiting, given, given_or, first_given, seats_before, seats_up_to, PassesGiven}
 use Rattle.ynl_lanes.proofs.lane.Lists.{all_lookup, all_both}
 use Rattle.ynl_lanes.proofs.lane.Found.{all_from_each, in_line-at}
-use Rattle.ynl_lanes.proofs.lane.Views.{seat_found}
+use Rattle.ynl_lanes.proofs.lane.Views.{of_both, seat_found}
 
 -- the entries before that of a ticket
 abbrev entries_before : ℕ → List (ℕ × SeatRow) → List (ℕ × SeatRow)
@@ -75,29 +76,29 @@ found_before ticket n row other (e ∷ es) h found there lt = go (nat_eq ticket 
     go false f false q t later = ap (λ (b : Bool). cond b (Some e.1) (lookup (nat_eq n) (entries_before ticket es))) q ∙ later f t
 
 -- where something waits at a seat
-waits_true : (kind : Kind) (users : List (ℕ × UserRow)) (e : ℕ × SeatRow) → WaitsAt kind e.1 → is_waiting kind (seat_of users e).1 ≡ true
-waits_true kind users e h = go (fits_in no_size (of_kind kind e.1.waits)) h
+waits_true : (kind : Kind) (users : List (ℕ × UserRow)) (e : ℕ × SeatRow) → WaitsAt kind users e.1 → is_waiting kind (seat_of users e).1 ≡ true
+waits_true kind users e h = go (fits_in no_size (of_kind kind (both_in users e.1))) (subst IsWaiting (sym (of_both kind users e.1)) h)
   where
     go : (b : Bool) → ¬ (b ≡ true) → not b ≡ true
     go true k = absurd (k refl)
     go false k = refl
 
-true_waits : (kind : Kind) (users : List (ℕ × UserRow)) (e : ℕ × SeatRow) → is_waiting kind (seat_of users e).1 ≡ true → WaitsAt kind e.1
-true_waits kind users e h all = true≢false (sym h ∙ ap not all)
+true_waits : (kind : Kind) (users : List (ℕ × UserRow)) (e : ℕ × SeatRow) → is_waiting kind (seat_of users e).1 ≡ true → WaitsAt kind users e.1
+true_waits kind users e h = subst IsWaiting (of_both kind users e.1) (λ all. true≢false (sym h ∙ ap not all))
 
 module _ {F : Type 0} (kind : Kind) (users : List (ℕ × UserRow)) (gives : ℕ → Option F) where
   abbrev gift : ℕ × SeatRow → Option F
   gift e = given kind gives (seat_of users e).1
 
   -- what is given is given to a seat at which something waits
-  gift_waits : (e : ℕ × SeatRow) → IsSome (gift e) → WaitsAt kind e.1 × IsSome (gives e.1.app)
+  gift_waits : (e : ℕ × SeatRow) → IsSome (gift e) → WaitsAt kind users e.1 × IsSome (gives e.1.app)
   gift_waits e h = go (is_waiting kind (seat_of users e).1) refl h
     where
-      go : (b : Bool) → is_waiting kind (seat_of users e).1 ≡ b → IsSome (cond b (gives e.1.app) None) → WaitsAt kind e.1 × IsSome (gives e.1.app)
+      go : (b : Bool) → is_waiting kind (seat_of users e).1 ≡ b → IsSome (cond b (gives e.1.app) None) → WaitsAt kind users e.1 × IsSome (gives e.1.app)
       go true q k = (true_waits kind users e q, k)
       go false q k = absurd (true≢false (sym k))
 
-  gift_given : (e : ℕ × SeatRow) → WaitsAt kind e.1 → gift e ≡ gives e.1.app
+  gift_given : (e : ℕ × SeatRow) → WaitsAt kind users e.1 → gift e ≡ gives e.1.app
   gift_given e h = ap (λ (b : Bool). cond b (gives e.1.app) None) (waits_true kind users e h)
 
   none_gift : (o : Option F) → (IsSome o → ⊥) → o ≡ None
@@ -129,7 +130,7 @@ module _ {F : Type 0} (kind : Kind) (users : List (ℕ × UserRow)) (gives : ℕ
 
 module _ {F : Type 0} (rows : Rows) (kept : IsKept rows) (kind : Kind) (gives : ℕ → Option F) (seen : List (ℕ × Seat)) (view : map (seat_of rows.users.entries) rows.seats.entries ≡ seen) where
   -- each seat that is given something stands in this slot or behind it
-  behind : (slot : ℕ) → NoneBefore (WaitsAt kind) gives rows.seats.entries slot → AllByRecursion (λ e. IsSome (gift kind rows.users.entries gives e) → slot ≤ e.1.slot) rows.seats.entries
+  behind : (slot : ℕ) → NoneBefore (WaitsAt kind rows.users.entries) gives rows.seats.entries slot → AllByRecursion (λ e. IsSome (gift kind rows.users.entries gives e) → slot ≤ e.1.slot) rows.seats.entries
   behind slot h = all_from_each (λ e. IsSome (gift kind rows.users.entries gives e) → slot ≤ e.1.slot) rows.seats.entries kept.seated.distinct
       (λ n e there some. (let is = gift_waits kind rows.users.entries gives (n, e) some in h n e there is.0 is.1))
 
@@ -137,7 +138,7 @@ module _ {F : Type 0} (rows : Rows) (kept : IsKept rows) (kind : Kind) (gives : 
   record Front (limit : ℕ) (front : List (ℕ × SeatRow)) : Type 0 where
     pub ordered : AreOrdered (IsBefore Lane) front
     pub slots : AllByRecursion (λ e. e.1.slot < limit) front
-    pub least : (slot : ℕ) → NoneBefore (WaitsAt kind) gives rows.seats.entries slot → AllByRecursion (λ e. IsSome (gift kind rows.users.entries gives e) → slot ≤ e.1.slot) front
+    pub least : (slot : ℕ) → NoneBefore (WaitsAt kind rows.users.entries) gives rows.seats.entries slot → AllByRecursion (λ e. IsSome (gift kind rows.users.entries gives e) → slot ≤ e.1.slot) front
     pub found : (n : ℕ) (row : SeatRow) → lookup (nat_eq n) rows.seats.entries ≡ Some row → row.slot < limit → lookup (nat_eq n) front ≡ Some row
 
   -- all entries, or those before one
@@ -157,12 +158,12 @@ module _ {F : Type 0} (rows : Rows) (kept : IsKept rows) (kind : Kind) (gives : 
     found = λ n other there lt. found_before ticket n row other rows.seats.entries (kept.seated.lines Lane).ordered found there lt;
   }
 
-  front_none : (limit : ℕ) (front : List (ℕ × SeatRow)) → Front limit front → NoneBefore (WaitsAt kind) gives rows.seats.entries limit → first_given (given kind gives) (map (seat_of rows.users.entries) front) ≡ None
+  front_none : (limit : ℕ) (front : List (ℕ × SeatRow)) → Front limit front → NoneBefore (WaitsAt kind rows.users.entries) gives rows.seats.entries limit → first_given (given kind gives) (map (seat_of rows.users.entries) front) ≡ None
   front_none limit front f none = none_first kind rows.users.entries gives front
       (all_both (λ e. e.1.slot < limit) (λ e. IsSome (gift kind rows.users.entries gives e) → limit ≤ e.1.slot) (λ e. gift kind rows.users.entries gives e ≡ None)
       (λ e lt least. none_gift kind rows.users.entries gives (gift kind rows.users.entries gives e) (λ some. (let le = least some in omega (arith, lt, le)))) front f.slots (f.least limit none))
 
-  front_some : (limit : ℕ) (front : List (ℕ × SeatRow)) → Front limit front → (found : Found F) → IsFirstGiven (WaitsAt kind) gives rows.seats.entries limit found → first_given (given kind gives) (map (seat_of rows.users.entries) front) ≡ Some (found.ticket, found.given)
+  front_some : (limit : ℕ) (front : List (ℕ × SeatRow)) → Front limit front → (found : Found F) → IsFirstGiven (WaitsAt kind rows.users.entries) gives rows.seats.entries limit found → first_given (given kind gives) (map (seat_of rows.users.entries) front) ≡ Some (found.ticket, found.given)
   front_some limit front f found is =
       let at = is.at in
       let before = is.before in
@@ -172,23 +173,23 @@ module _ {F : Type 0} (rows : Rows) (kept : IsKept rows) (kind : Kind) (gives : 
       (gift_given kind rows.users.entries gives (found.ticket, is.row) is.here ∙ is.given)
 
   -- what a search up to all seats finds, and one up to a seat
-  pub all_none : (limit : ℕ) → limit ≡ length rows.line.tickets → NoneBefore (WaitsAt kind) gives rows.seats.entries limit → first_given (given kind gives) (seats_up_to None seen) ≡ None
+  pub all_none : (limit : ℕ) → limit ≡ length rows.line.tickets → NoneBefore (WaitsAt kind rows.users.entries) gives rows.seats.entries limit → first_given (given kind gives) (seats_up_to None seen) ≡ None
   all_none limit is none = ap (first_given (given kind gives)) (sym view) ∙ front_none limit rows.seats.entries (subst (λ n. Front n rows.seats.entries) (sym is) front_all) none
 
-  pub all_some : (limit : ℕ) → limit ≡ length rows.line.tickets → (found : Found F) → IsFirstGiven (WaitsAt kind) gives rows.seats.entries limit found → first_given (given kind gives) (seats_up_to None seen) ≡ Some (found.ticket, found.given)
+  pub all_some : (limit : ℕ) → limit ≡ length rows.line.tickets → (found : Found F) → IsFirstGiven (WaitsAt kind rows.users.entries) gives rows.seats.entries limit found → first_given (given kind gives) (seats_up_to None seen) ≡ Some (found.ticket, found.given)
   all_some limit is found first = ap (first_given (given kind gives)) (sym view) ∙ front_some limit rows.seats.entries (subst (λ n. Front n rows.seats.entries) (sym is) front_all) found first
 
-  pub before_none : (ticket limit : ℕ) (row : SeatRow) → lookup (nat_eq ticket) rows.seats.entries ≡ Some row → limit ≡ row.slot → NoneBefore (WaitsAt kind) gives rows.seats.entries limit → first_given (given kind gives) (seats_up_to (Some ticket) seen) ≡ None
+  pub before_none : (ticket limit : ℕ) (row : SeatRow) → lookup (nat_eq ticket) rows.seats.entries ≡ Some row → limit ≡ row.slot → NoneBefore (WaitsAt kind rows.users.entries) gives rows.seats.entries limit → first_given (given kind gives) (seats_up_to (Some ticket) seen) ≡ None
   before_none ticket limit row found is none = ap (λ s. first_given (given kind gives) (seats_before ticket s)) (sym view) ∙ ap (first_given (given kind gives)) (before_shown rows.users.entries ticket rows.seats.entries)
       ∙ front_none limit (entries_before ticket rows.seats.entries) (subst (λ n. Front n (entries_before ticket rows.seats.entries)) (sym is) (front_before ticket row found)) none
 
-  pub before_some : (ticket limit : ℕ) (row : SeatRow) → lookup (nat_eq ticket) rows.seats.entries ≡ Some row → limit ≡ row.slot → (found : Found F) → IsFirstGiven (WaitsAt kind) gives rows.seats.entries limit found → first_given (given kind gives) (seats_up_to (Some ticket) seen) ≡ Some (found.ticket, found.given)
+  pub before_some : (ticket limit : ℕ) (row : SeatRow) → lookup (nat_eq ticket) rows.seats.entries ≡ Some row → limit ≡ row.slot → (found : Found F) → IsFirstGiven (WaitsAt kind rows.users.entries) gives rows.seats.entries limit found → first_given (given kind gives) (seats_up_to (Some ticket) seen) ≡ Some (found.ticket, found.given)
   before_some ticket limit row found is gift first = ap (λ s. first_given (given kind gives) (seats_before ticket s)) (sym view) ∙ ap (first_given (given kind gives)) (before_shown rows.users.entries ticket rows.seats.entries)
       ∙ front_some limit (entries_before ticket rows.seats.entries) (subst (λ n. Front n (entries_before ticket rows.seats.entries)) (sym is) (front_before ticket row found)) gift first
 
 -- what passes as a contract sees it, the user of the row may have
 pub given_shown : {F : Type 0} (rows : Rows) (kind : Kind) (may : Resource → Resource → Type 0) (gives : ℕ → Option F) (seen : List (ℕ × Seat)) → map (seat_of rows.users.entries) rows.seats.entries ≡ seen → PassesGiven kind may gives seen → MayHaveGiven kind may gives rows.seats.entries rows.users.entries
 given_shown rows kind may gives seen view h n row there waits gets =
-    h n (seat_of rows.users.entries (n, row)).1
+    subst (may (used_by row.user rows.users.entries)) (of_both kind rows.users.entries row) (h n (seat_of rows.users.entries (n, row)).1
     (ap (λ s. lookup (nat_eq n) s) (sym view) ∙ seat_found rows.users.entries n rows.seats.entries ∙ ap (option_map (λ (r : SeatRow). (seat_of rows.users.entries (n, r)).1)) there)
-    waits gets
+    (subst IsWaiting (sym (of_both kind rows.users.entries row)) waits) gets)

@@ -9,25 +9,28 @@ use Rattle.std.proofs.lemmas.Option.{same_Some, none-some}
 use Rattle.std.proofs.lemmas.List.{map-append}
 use Rattle.ynl_resource.specs.declared.amounts.Resource.{Resource}
 use Rattle.ynl_resource.specs.Amounts.{nothing}
-use Rattle.ynl_slots.specs.Slots.{IsOnly, IsUnused, IsLive, without}
-use Rattle.ynl_slots.proofs.Lookups.{only_from_distinct}
+use Rattle.ynl_slots.specs.Slots.{IsUnused, IsLive, without}
+use Rattle.ynl_lanes.specs.lows.Lows.{no_size}
 use Rattle.ynl_lanes.specs.declared.lane.kinds.Both.{Both}
+use Rattle.ynl_lanes.specs.declared.lane.kinds.Kind.{Kind}
+use Rattle.ynl_lanes.specs.declared.lane.kinds.Kind.TheVariants.{Master, Ask}
 use Rattle.ynl_lanes.specs.declared.lane.rows.SeatRow.{SeatRow}
 use Rattle.ynl_lanes.specs.declared.lane.rows.UserRow.{UserRow}
 use Rattle.ynl_lanes.specs.declared.lane.rows.Rows.{Rows}
-use Rattle.ynl_lanes.specs.lane.Changes.{IsOwnRoom, Shown, shown, ShowSame, ShowsOther, SetsWaits, PushesSeat}
+use Rattle.ynl_lanes.specs.lane.Changes.{IsOwnRoom, Shown, shown, ShowSame, ShowsOther, SetsWaits, KeepWaits, PushesSeat}
 use Rattle.ynl_lanes.specs.lane.Fields.{IsReady, ok_of, user_by, seat_of, count_of, AreKeyed, IsUserOf, AreUsersOf, Opens}
 use Rattle.ynl_lanes.specs.lane.Found.{EachSeat}
 use Rattle.ynl_lanes.specs.lane.Levels.{ArePairs}
 use Rattle.ynl_lanes.specs.lane.Lines.{HasRoom}
 use Rattle.ynl_lanes.specs.lane.Rooms.{IsSameSeat}
-use Rattle.ynl_lanes.specs.lane.Rows.{used_by, IsKept}
+use Rattle.ynl_lanes.specs.lane.Rows.{used_by, waits_in, IsKept}
 use Rattle.ynl_lanes.specs.lane.Seats.{Seat, nothing_waits, with_waits, used_at, Adds}
 use Rattle.ynl_lanes.proofs.lane.Found.{all_from_each}
-use Rattle.ynl_lanes.proofs.lane.Lists.{all_lookup, all_then, each_pushed, found_written, found_pushed, last_found, was_without, same_without}
+use Rattle.ynl_lanes.proofs.lane.Lists.{all_lookup, all_then, each_pushed, found_pushed, last_found, was_without, same_without}
 use Rattle.ynl_lanes.proofs.lane.Standing.{user_live}
 use Rattle.ynl_lanes.proofs.lane.Opening.{no_seat_of}
-use Rattle.ynl_lanes.proofs.lane.Showing.{shown_row, seat_as, seats_as, map_as, map_any, count_written, count_pushed, count_pairs, count_none, count_without}
+use Rattle.ynl_lanes.proofs.lane.Pushing.{none_of}
+use Rattle.ynl_lanes.proofs.lane.Showing.{shown_row, shows_as, waits_as, both_as, seat_as, map_as, count_pushed, count_pairs, count_none, count_without}
 use Rattle.ynl_lanes.proofs.lane.Views.{seat_live, view_entered, view_pairs, view_without, used_first, user_as, users_as, HaveRows}
 
 -- each user is found
@@ -69,16 +72,12 @@ have_rows rows kept = all_from_each (λ e. (row : UserRow) × (lookup (nat_eq e.
     go e (Some row) q live = (row, q)
 
 -- other things wait at a seat
-module _ (numbers : ℕ → Option ℕ) (ready : Option ℕ) (rows new : Rows) (kept : IsKept rows) (ticket : ℕ) (waits : Both Resource) (sets : SetsWaits ticket waits rows.seats.entries new.seats.entries) (same : ShowSame rows.users.entries new.users.entries) where
-  only : IsOnly ticket sets.row rows.seats.entries
-  only = only_from_distinct ticket sets.row rows.seats.entries kept.seated.distinct sets.found
-
+module _ (numbers : ℕ → Option ℕ) (ready : Option ℕ) (rows new : Rows) (kept : IsKept rows) (seats : new.seats ≡ rows.seats) (ticket : ℕ) (waits : Both Resource) (sets : SetsWaits ticket waits rows.seats.entries rows.users.entries new.users.entries) (same : ShowSame rows.users.entries new.users.entries) where
   pub users_entered : AreUsersOf numbers ready rows.seats.entries rows.users.entries → AreUsersOf numbers ready new.seats.entries new.users.entries
-  users_entered h = users_as numbers ready rows.seats.entries new.seats.entries rows.users.entries new.users.entries h same
-      (λ user. ap (count_of user) sets.entries ∙ count_written user ticket sets.row (record sets.row { waits = waits }) rows.seats.entries only refl)
+  users_entered h = users_as numbers ready rows.seats.entries new.seats.entries rows.users.entries new.users.entries h same (λ user. ap (λ s. count_of user s.entries) seats)
 
   pub seats_entered : map (seat_of new.users.entries) new.seats.entries ≡ with_waits ticket waits (map (seat_of rows.users.entries) rows.seats.entries)
-  seats_entered = seats_as rows.users.entries new.users.entries same new.seats.entries ∙ ap (map (seat_of rows.users.entries)) sets.entries ∙ view_entered rows.users.entries ticket waits sets.row rows.seats.entries only
+  seats_entered = ap (λ s. map (seat_of new.users.entries) s.entries) seats ∙ view_entered rows.users.entries new.users.entries ticket waits rows.seats.entries kept.seated.distinct sets same
 
 -- a user is closed who has no seat
 module _ (numbers after : ℕ → Option ℕ) (ready : Option ℕ) (user : ℕ) (rows new : Rows) (kept : IsKept rows) (seats : new.seats ≡ rows.seats) (users : new.users.entries ≡ without user rows.users.entries) (keyed : AreKeyed after new.users.entries) where
@@ -91,7 +90,33 @@ module _ (numbers after : ℕ → Option ℕ) (ready : Option ℕ) (user : ℕ) 
   pub seats_closed : EachSeat (λ _ row. row.user ≢ user) rows.seats.entries → map (seat_of new.users.entries) new.seats.entries ≡ map (seat_of rows.users.entries) rows.seats.entries
   seats_closed none = ap (λ s. map (seat_of new.users.entries) s.entries) seats ∙ map_as (seat_of new.users.entries) (seat_of rows.users.entries) rows.seats.entries
       (all_from_each (λ e. seat_of new.users.entries e ≡ seat_of rows.users.entries e) rows.seats.entries kept.seated.distinct
-      (λ n e there. seat_as (n, e) rows.users.entries new.users.entries (ap (λ us. option_map shown (lookup (nat_eq e.user) us)) users ∙ ap (option_map shown) (same_without user e.user rows.users.entries (none n e there)))))
+      (λ n e there. (let stays = ap (λ us. lookup (nat_eq e.user) us) users ∙ same_without user e.user rows.users.entries (none n e there) in seat_as (n, e) rows.users.entries new.users.entries (ap (option_map shown) stays) (waits_as rows.users.entries new.users.entries e stays))))
+
+-- a user shows the same but for the count of seats
+users_counted : (user : ℕ) (count : Shown → ℕ) (old new : List (ℕ × UserRow)) → ShowsOther user (λ s. record s { live = count s }) old new → (other : ℕ) → (user_by other new ≡ user_by other old) × (used_by other new ≡ used_by other old)
+users_counted user count old new shows other = ⊎_elim own (λ apart. alike (shows.others other apart)) (cases_eq other user)
+  where
+    alike : option_map shown (lookup (nat_eq other) new) ≡ option_map shown (lookup (nat_eq other) old) → (user_by other new ≡ user_by other old) × (used_by other new ≡ used_by other old)
+    alike same = (shows_as (λ (s : Shown). s.user) 0 other old new same, shows_as (λ (s : Shown). s.used) nothing other old new same)
+
+    own : other ≡ user → (user_by other new ≡ user_by other old) × (used_by other new ≡ used_by other old)
+    own same = go (lookup (nat_eq user) old) refl
+      where
+        go : (o : Option UserRow) → lookup (nat_eq user) old ≡ o → (user_by other new ≡ user_by other old) × (used_by other new ≡ used_by other old)
+        go None q = alike (ap (λ u. option_map shown (lookup (nat_eq u) new)) same ∙ shows.own ∙ ap (option_map (λ r. record (shown r) { live = count (shown r) })) q ∙ sym (ap (option_map shown) q) ∙ ap (λ u. option_map shown (lookup (nat_eq u) old)) (sym same))
+        go (Some r) q =
+            let next = shown_row user (record (shown r) { live = count (shown r) }) new (shows.own ∙ ap (option_map (λ r. record (shown r) { live = count (shown r) })) q) in (
+              ap (λ u. user_by u new) same ∙ ap (λ o. option_map_or (λ (r : UserRow). r.user) o 0) next.1 ∙ ap (λ (s : Shown). s.user) next.2 ∙ sym (ap (λ u. user_by u old) same ∙ ap (λ o. option_map_or (λ (r : UserRow). r.user) o 0) q),
+              ap (λ u. used_by u new) same ∙ ap (λ o. option_map_or (λ (r : UserRow). r.used) o nothing) next.1 ∙ ap (λ (s : Shown). s.used) next.2 ∙ sym (ap (λ u. used_by u old) same ∙ ap (λ o. option_map_or (λ (r : UserRow). r.used) o nothing) q),
+            )
+
+-- so do the seats, where the same waits at them
+seats_counted : (user : ℕ) (count : Shown → ℕ) (rows : Rows) (new : List (ℕ × UserRow)) → IsKept rows → ShowsOther user (λ s. record s { live = count s }) rows.users.entries new → KeepWaits rows.users.entries new rows.seats.entries → map (seat_of new) rows.seats.entries ≡ map (seat_of rows.users.entries) rows.seats.entries
+seats_counted user count rows new kept shows keeps = map_as (seat_of new) (seat_of rows.users.entries) rows.seats.entries
+    (all_from_each (λ e. seat_of new e ≡ seat_of rows.users.entries e) rows.seats.entries kept.seated.distinct (λ n e there. (
+    let own = users_counted user count rows.users.entries new shows e.user in
+    let waits = both_as rows.users.entries new e e (keeps n e there) in
+    λ i. (n, record { app = e.app; user = own.0 i; used = own.1 i; waits = waits i }))))
 
 -- a seat goes
 module _ (numbers : ℕ → Option ℕ) (rows new : Rows) (kept : IsKept rows) (ticket : ℕ) (seat : SeatRow) (found : lookup (nat_eq ticket) rows.seats.entries ≡ Some seat) (seats : new.seats.entries ≡ without ticket rows.seats.entries)
@@ -138,32 +163,17 @@ module _ (numbers : ℕ → Option ℕ) (rows new : Rows) (kept : IsKept rows) (
       (λ apart. pulled_other n x apart there)
       (cases_eq n seat.user)
 
-  pub seats_pulled : map (seat_of new.users.entries) new.seats.entries ≡ without ticket (map (seat_of rows.users.entries) rows.seats.entries)
-  seats_pulled = ap (map (seat_of new.users.entries)) seats ∙ view_without new.users.entries ticket rows.seats.entries ∙ ap (without ticket) (map_as (seat_of new.users.entries) (seat_of rows.users.entries) rows.seats.entries
-      (all_from_each (λ e. seat_of new.users.entries e ≡ seat_of rows.users.entries e) rows.seats.entries kept.seated.distinct (λ n e there. as_before (n, e))))
-    where
-      as_before : (e : ℕ × SeatRow) → seat_of new.users.entries e ≡ seat_of rows.users.entries e
-      as_before e = ⊎_elim own (λ apart. seat_as e rows.users.entries new.users.entries (shows.others e.1.user apart)) (cases_eq e.1.user seat.user)
-        where
-          own : e.1.user ≡ seat.user → seat_of new.users.entries e ≡ seat_of rows.users.entries e
-          own same = go (lookup (nat_eq seat.user) rows.users.entries) refl shows.own
-            where
-              go : (o : Option UserRow) → lookup (nat_eq seat.user) rows.users.entries ≡ o → option_map shown (lookup (nat_eq seat.user) new.users.entries) ≡ option_map (λ r. record (shown r) { live = r.live - 1 }) (lookup (nat_eq seat.user) rows.users.entries) → seat_of new.users.entries e ≡ seat_of rows.users.entries e
-              go None q k = seat_as e rows.users.entries new.users.entries (ap (λ u. option_map shown (lookup (nat_eq u) new.users.entries)) same ∙ k ∙ ap (option_map (λ r. record (shown r) { live = r.live - 1 })) q ∙ sym (ap (option_map shown) q) ∙ ap (λ u. option_map shown (lookup (nat_eq u) rows.users.entries)) (sym same))
-              go (Some r) q k =
-                  let next = shown_row seat.user (record (shown r) { live = r.live - 1 }) new.users.entries (k ∙ ap (option_map (λ r. record (shown r) { live = r.live - 1 })) q) in
-                  let user_is : user_by e.1.user new.users.entries ≡ user_by e.1.user rows.users.entries = ap (λ u. user_by u new.users.entries) same ∙ ap (λ o. option_map_or (λ (r : UserRow). r.user) o 0) next.1 ∙ ap (λ (s : Shown). s.user) next.2 ∙ sym (ap (λ u. user_by u rows.users.entries) same ∙ ap (λ o. option_map_or (λ (r : UserRow). r.user) o 0) q) in
-                  let uses : used_by e.1.user new.users.entries ≡ used_by e.1.user rows.users.entries = ap (λ u. used_by u new.users.entries) same ∙ ap (λ o. option_map_or (λ (r : UserRow). r.used) o nothing) next.1 ∙ ap (λ (s : Shown). s.used) next.2 ∙ sym (ap (λ u. used_by u rows.users.entries) same ∙ ap (λ o. option_map_or (λ (r : UserRow). r.used) o nothing) q) in
-                  λ i. (e.0, record { app = e.1.app; user = user_is i; used = uses i; waits = e.1.waits })
+  pub seats_pulled : KeepWaits rows.users.entries new.users.entries rows.seats.entries → map (seat_of new.users.entries) new.seats.entries ≡ without ticket (map (seat_of rows.users.entries) rows.seats.entries)
+  seats_pulled keeps = ap (map (seat_of new.users.entries)) seats ∙ view_without new.users.entries ticket rows.seats.entries ∙ ap (without ticket) (seats_counted seat.user (λ s. s.live - 1) rows new.users.entries kept shows keeps)
 
 -- ---- room for a user's next seat
 
 -- the same seats in other slots, and users who show the same
-pub users_moved : (numbers : ℕ → Option ℕ) (rows new : Rows) → AreUsersOf numbers None rows.seats.entries rows.users.entries → ArePairs IsSameSeat rows.seats.entries new.seats.entries → ShowSame rows.users.entries new.users.entries → AreUsersOf numbers None new.seats.entries new.users.entries
-users_moved numbers rows new h pairs same = users_as numbers None rows.seats.entries new.seats.entries rows.users.entries new.users.entries h same (λ user. count_pairs user rows.seats.entries new.seats.entries pairs)
+pub users_moved : (numbers : ℕ → Option ℕ) (rows new : Rows) → AreUsersOf numbers None rows.seats.entries rows.users.entries → ArePairs (IsSameSeat rows.users.entries new.users.entries) rows.seats.entries new.seats.entries → ShowSame rows.users.entries new.users.entries → AreUsersOf numbers None new.seats.entries new.users.entries
+users_moved numbers rows new h pairs same = users_as numbers None rows.seats.entries new.seats.entries rows.users.entries new.users.entries h same (λ user. count_pairs rows.users.entries new.users.entries user rows.seats.entries new.seats.entries pairs)
 
-pub seats_moved : (rows new : Rows) → ArePairs IsSameSeat rows.seats.entries new.seats.entries → ShowSame rows.users.entries new.users.entries → map (seat_of new.users.entries) new.seats.entries ≡ map (seat_of rows.users.entries) rows.seats.entries
-seats_moved rows new pairs same = seats_as rows.users.entries new.users.entries same new.seats.entries ∙ view_pairs rows.users.entries rows.seats.entries new.seats.entries pairs
+pub seats_moved : (rows new : Rows) → ArePairs (IsSameSeat rows.users.entries new.users.entries) rows.seats.entries new.seats.entries → ShowSame rows.users.entries new.users.entries → map (seat_of new.users.entries) new.seats.entries ≡ map (seat_of rows.users.entries) rows.seats.entries
+seats_moved rows new pairs same = view_pairs rows.users.entries new.users.entries same rows.seats.entries new.seats.entries pairs
 
 pub shows_itself : (old new : List (ℕ × UserRow)) → new ≡ old → ShowSame old new
 shows_itself old new same user = ap (λ us. option_map shown (lookup (nat_eq user) us)) same
@@ -207,7 +217,7 @@ module _ (numbers : ℕ → Option ℕ) (number user : ℕ) (rows new : Rows) (k
   pub seats_opened : map (seat_of new.users.entries) new.seats.entries ≡ map (seat_of rows.users.entries) rows.seats.entries
   seats_opened = ap (λ s. map (seat_of new.users.entries) s.entries) seats ∙ map_as (seat_of new.users.entries) (seat_of rows.users.entries) rows.seats.entries
       (all_then (λ e. (row : UserRow) × (lookup (nat_eq e.1.user) rows.users.entries ≡ Some row)) (λ e. seat_of new.users.entries e ≡ seat_of rows.users.entries e)
-      (λ e own. seat_as e rows.users.entries new.users.entries (ap (λ us. option_map shown (lookup (nat_eq e.1.user) us)) opens.entries ∙ ap (option_map shown) (found_pushed number e.1.user opens.row own.0 rows.users.entries opens.unused own.1) ∙ sym (ap (option_map shown) own.1))) rows.seats.entries (have_rows rows kept))
+      (λ e own. (let stays = ap (λ us. lookup (nat_eq e.1.user) us) opens.entries ∙ found_pushed number e.1.user opens.row own.0 rows.users.entries opens.unused own.1 ∙ sym own.1 in seat_as e rows.users.entries new.users.entries (ap (option_map shown) stays) (waits_as rows.users.entries new.users.entries e.1 stays))) rows.seats.entries (have_rows rows kept))
 
   pub opened_live : IsLive number new.users.entries
   opened_live = ap (λ us. is_some (lookup (nat_eq number) us)) opens.entries ∙ ap is_some (last_found number opens.row rows.users.entries opens.unused)
@@ -254,22 +264,7 @@ module _ (old numbers : ℕ → Option ℕ) (user : ℕ) (rows new : Rows) (kept
 
 -- ---- a seat comes
 
--- a seat shows the same where only the count of a user's seats changes
-pub seat_counted : (user : ℕ) (count : Shown → ℕ) (old new : List (ℕ × UserRow)) → ShowsOther user (λ s. record s { live = count s }) old new → (e : ℕ × SeatRow) → seat_of new e ≡ seat_of old e
-seat_counted user count old new shows e = ⊎_elim own (λ apart. seat_as e old new (shows.others e.1.user apart)) (cases_eq e.1.user user)
-  where
-    own : e.1.user ≡ user → seat_of new e ≡ seat_of old e
-    own same = go (lookup (nat_eq user) old) refl
-      where
-        go : (o : Option UserRow) → lookup (nat_eq user) old ≡ o → seat_of new e ≡ seat_of old e
-        go None q = seat_as e old new (ap (λ u. option_map shown (lookup (nat_eq u) new)) same ∙ shows.own ∙ ap (option_map (λ r. record (shown r) { live = count (shown r) })) q ∙ sym (ap (option_map shown) q) ∙ ap (λ u. option_map shown (lookup (nat_eq u) old)) (sym same))
-        go (Some r) q =
-            let next = shown_row user (record (shown r) { live = count (shown r) }) new (shows.own ∙ ap (option_map (λ r. record (shown r) { live = count (shown r) })) q) in
-            let user_is : user_by e.1.user new ≡ user_by e.1.user old = ap (λ u. user_by u new) same ∙ ap (λ o. option_map_or (λ (r : UserRow). r.user) o 0) next.1 ∙ ap (λ (s : Shown). s.user) next.2 ∙ sym (ap (λ u. user_by u old) same ∙ ap (λ o. option_map_or (λ (r : UserRow). r.user) o 0) q) in
-            let uses : used_by e.1.user new ≡ used_by e.1.user old = ap (λ u. used_by u new) same ∙ ap (λ o. option_map_or (λ (r : UserRow). r.used) o nothing) next.1 ∙ ap (λ (s : Shown). s.used) next.2 ∙ sym (ap (λ u. used_by u old) same ∙ ap (λ o. option_map_or (λ (r : UserRow). r.used) o nothing) q) in
-            λ i. (e.0, record { app = e.1.app; user = user_is i; used = uses i; waits = e.1.waits })
-
-module _ (numbers : ℕ → Option ℕ) (app user ticket : ℕ) (rows new : Rows) (kept : IsKept rows) (pushes : PushesSeat app user ticket rows.seats.entries new.seats.entries) (shows : ShowsOther user (λ s. record s { live = s.live + 1 }) rows.users.entries new.users.entries) (h : AreUsersOf numbers (Some user) rows.seats.entries rows.users.entries) where
+module _ (numbers : ℕ → Option ℕ) (app user ticket : ℕ) (rows new : Rows) (kept : IsKept rows) (pushes : PushesSeat app user ticket new.users.entries rows.seats.entries new.seats.entries) (shows : ShowsOther user (λ s. record s { live = s.live + 1 }) rows.users.entries new.users.entries) (h : AreUsersOf numbers (Some user) rows.seats.entries rows.users.entries) where
   counts_more : (n : ℕ) → count_of n new.seats.entries ≡ count_of n rows.seats.entries + cond (nat_eq n user) 1 0
   counts_more n = ap (count_of n) pushes.entries ∙ count_pushed n ticket pushes.row rows.seats.entries ∙ ap (λ u. let k : ℕ = count_of n rows.seats.entries + cond (nat_eq n u) 1 0 in k) pushes.user_is
 
@@ -303,11 +298,18 @@ module _ (numbers : ℕ → Option ℕ) (app user ticket : ℕ) (rows new : Rows
           let more = counts_more n in
           user_as numbers numbers (Some user) None rows.seats.entries new.seats.entries rows.users.entries new.users.entries h n row (shows.others n apart) there (subst (λ (s : Shown). numbers s.user ≡ Some n) own.2 (h n own.0 own.1).keyed) (λ away is. apart (sym (same_Some _ _ is))) (omega (arith, more, one))
 
-  pub seats_added : (own : UserRow) → lookup (nat_eq user) rows.users.entries ≡ Some own → Adds app ticket (user_by user rows.users.entries) (map (seat_of rows.users.entries) rows.seats.entries) (map (seat_of new.users.entries) new.seats.entries)
-  seats_added own found = record {
+  pub seats_added : KeepWaits rows.users.entries new.users.entries rows.seats.entries → (own : UserRow) → lookup (nat_eq user) rows.users.entries ≡ Some own → Adds app ticket (user_by user rows.users.entries) (map (seat_of rows.users.entries) rows.seats.entries) (map (seat_of new.users.entries) new.seats.entries)
+  seats_added keeps own found = record {
     unused = unused_shown rows.seats.entries pushes.unused;
-    seats = map_any (seat_of new.users.entries) (seat_of rows.users.entries) (seat_counted user (λ s. s.live + 1) rows.users.entries new.users.entries shows) new.seats.entries ∙ ap (map (seat_of rows.users.entries)) pushes.entries ∙ map-append (seat_of rows.users.entries) rows.seats.entries ((ticket, pushes.row) ∷ [])
-        ∙ (λ i. map (seat_of rows.users.entries) rows.seats.entries ++ (ticket, record { app = pushes.app_is i; user = user_by (pushes.user_is i) rows.users.entries; used = uses i; waits = pushes.waits i }) ∷ []);
+    seats = ap (map (seat_of new.users.entries)) pushes.entries ∙ map-append (seat_of new.users.entries) rows.seats.entries ((ticket, pushes.row) ∷ [])
+        ∙ (
+        let before = seats_counted user (λ s. s.live + 1) rows new.users.entries kept shows keeps in
+        let last = users_counted user (λ s. s.live + 1) rows.users.entries new.users.entries shows pushes.row.user in
+        let user_is = last.0 ∙ ap (λ u. user_by u rows.users.entries) pushes.user_is in
+        let used = last.1 ∙ uses in
+        let master = pushes.waits Master in
+        let ask = pushes.waits Ask in
+        λ i. before i ++ (ticket, record { app = pushes.app_is i; user = user_is i; used = used i; waits = record { master = master i; ask = ask i } }) ∷ []);
   }
     where
       unused_shown : (seats : List (ℕ × SeatRow)) → IsUnused ticket seats → IsUnused ticket (map (seat_of rows.users.entries) seats)
@@ -332,19 +334,19 @@ live_row user users live = go (lookup (nat_eq user) users) refl
 
 -- ---- a seat goes at which nothing waits any more
 
-module _ (numbers : ℕ → Option ℕ) (rows mid new : Rows) (kept : IsKept rows) (stays : IsKept mid) (ticket : ℕ) (sets : SetsWaits ticket nothing_waits rows.seats.entries mid.seats.entries) (same : ShowSame rows.users.entries mid.users.entries) where
-  left_seat : lookup (nat_eq ticket) mid.seats.entries ≡ Some (record sets.row { waits = nothing_waits })
-  left_seat = ap (lookup (nat_eq ticket)) sets.entries ∙ found_written ticket (record sets.row { waits = nothing_waits }) sets.row rows.seats.entries sets.found
+module _ (numbers : ℕ → Option ℕ) (rows mid new : Rows) (kept : IsKept rows) (stays : IsKept mid) (ticket : ℕ) (still : mid.seats ≡ rows.seats) (sets : SetsWaits ticket nothing_waits rows.seats.entries rows.users.entries mid.users.entries) (same : ShowSame rows.users.entries mid.users.entries) where
+  left_seat : lookup (nat_eq ticket) mid.seats.entries ≡ Some sets.row
+  left_seat = ap (λ s. lookup (nat_eq ticket) s.entries) still ∙ sets.found
 
   pub left_live : IsLive ticket mid.seats.entries
   left_live = ap is_some left_seat
 
-  pub left_idle : (row : SeatRow) → lookup (nat_eq ticket) mid.seats.entries ≡ Some row → row.waits ≡ nothing_waits
-  left_idle row there = (let is = same_Some _ _ (sym left_seat ∙ there) in ap (λ (r : SeatRow). r.waits) (sym is))
+  pub left_idle : (row : SeatRow) → lookup (nat_eq ticket) mid.seats.entries ≡ Some row → (kind : Kind) → waits_in kind mid.users.entries row ≡ no_size
+  left_idle row there kind = ap (waits_in kind mid.users.entries) (same_Some _ _ (sym there ∙ left_seat)) ∙ sets.own kind ∙ none_of kind
 
   module _ (h : AreUsersOf numbers None rows.seats.entries rows.users.entries) where
     left_users : AreUsersOf numbers None mid.seats.entries mid.users.entries
-    left_users = users_entered numbers None rows mid kept ticket nothing_waits sets same h
+    left_users = users_entered numbers None rows mid kept still ticket nothing_waits sets same h
 
     pub left_some : (row : SeatRow) (own : UserRow) → lookup (nat_eq ticket) mid.seats.entries ≡ Some row → lookup (nat_eq row.user) mid.users.entries ≡ Some own → 0 < own.live
     left_some row own there found = (left_users row.user own found).some (λ none. none-some row.user none)
@@ -358,27 +360,27 @@ module _ (numbers : ℕ → Option ℕ) (rows mid new : Rows) (kept : IsKept row
 
       pub gone_live : IsLive user new.users.entries
       gone_live =
-          let row = live_row sets.row.user mid.users.entries (user_live mid stays.seated ticket (record sets.row { waits = nothing_waits }) left_seat) in
+          let row = live_row sets.row.user mid.users.entries (user_live mid stays.seated ticket sets.row left_seat) in
           let next = shown_row sets.row.user (record (shown row.0) { live = row.0.live - 1 }) new.users.entries (seat_shows.own ∙ ap (option_map (λ r. record (shown r) { live = r.live - 1 })) row.1) in
           subst (λ u. IsLive u new.users.entries) own (ap is_some next.1)
 
       pub gone_users : (row : UserRow) → lookup (nat_eq user) new.users.entries ≡ Some row → row.live ≢ 0 → AreUsersOf numbers None new.seats.entries new.users.entries
-      gone_users row there some = users_pulled numbers mid new stays ticket (record sets.row { waits = nothing_waits }) left_seat seats seat_shows left_users row (ap (λ u. lookup (nat_eq u) new.users.entries) own ∙ there) some
+      gone_users row there some = users_pulled numbers mid new stays ticket sets.row left_seat seats seat_shows left_users row (ap (λ u. lookup (nat_eq u) new.users.entries) own ∙ there) some
 
-      pub gone_seats : map (seat_of new.users.entries) new.seats.entries ≡ without ticket (with_waits ticket nothing_waits (map (seat_of rows.users.entries) rows.seats.entries))
-      gone_seats = seats_pulled numbers mid new stays ticket (record sets.row { waits = nothing_waits }) left_seat seats seat_shows left_users ∙ ap (without ticket) (seats_entered numbers None rows mid kept ticket nothing_waits sets same)
+      pub gone_seats : KeepWaits mid.users.entries new.users.entries mid.seats.entries → map (seat_of new.users.entries) new.seats.entries ≡ without ticket (with_waits ticket nothing_waits (map (seat_of rows.users.entries) rows.seats.entries))
+      gone_seats keeps = seats_pulled numbers mid new stays ticket sets.row left_seat seats seat_shows left_users keeps ∙ ap (without ticket) (seats_entered numbers None rows mid kept still ticket nothing_waits sets same)
 
       pub gone_none : (row : UserRow) → lookup (nat_eq user) new.users.entries ≡ Some row → row.live ≡ 0 → EachSeat (λ _ e. e.user ≢ user) new.seats.entries
       gone_none row there none =
-          let known = pulled_own numbers mid new stays ticket (record sets.row { waits = nothing_waits }) left_seat seats seat_shows left_users row (ap (λ u. lookup (nat_eq u) new.users.entries) own ∙ there) in
+          let known = pulled_own numbers mid new stays ticket sets.row left_seat seats seat_shows left_users row (ap (λ u. lookup (nat_eq u) new.users.entries) own ∙ there) in
           subst (λ u. EachSeat (λ _ e. e.user ≢ u) new.seats.entries) own (none_of_count sets.row.user new.seats.entries (sym known.counted ∙ none))
 
       pub gone_other : (n : ℕ) (row : UserRow) → n ≢ user → lookup (nat_eq n) new.users.entries ≡ Some row → IsUserOf numbers None new.seats.entries n (shown row)
-      gone_other n row apart there = pulled_other numbers mid new stays ticket (record sets.row { waits = nothing_waits }) left_seat seats seat_shows left_users n row (λ is. apart (is ∙ own)) there
+      gone_other n row apart there = pulled_other numbers mid new stays ticket sets.row left_seat seats seat_shows left_users n row (λ is. apart (is ∙ own)) there
 
       pub gone_keyed : AreKeyed numbers new.users.entries
       gone_keyed n row there = ⊎_elim
-          (λ is. ap numbers refl ∙ (let known = pulled_own numbers mid new stays ticket (record sets.row { waits = nothing_waits }) left_seat seats seat_shows left_users row (ap (λ u. lookup (nat_eq u) new.users.entries) (own ∙ sym is) ∙ there) in known.keyed) ∙ ap Some (own ∙ sym is))
+          (λ is. ap numbers refl ∙ (let known = pulled_own numbers mid new stays ticket sets.row left_seat seats seat_shows left_users row (ap (λ u. lookup (nat_eq u) new.users.entries) (own ∙ sym is) ∙ there) in known.keyed) ∙ ap Some (own ∙ sym is))
           (λ apart. (gone_other n row apart there).keyed)
           (cases_eq n user)
 

@@ -5,7 +5,7 @@ use Rattle.std.specs.Map.{lookup}
 use Rattle.std.proofs.lemmas.Bool.Decides.{nat_tests}
 use Rattle.std.proofs.lemmas.Option.{same_Some, none-some}
 use Rattle.ynl_slots.proofs.Lookups.{lookup-with_row, lookup-push, lookup-unused, lookup-without}
-use Rattle.ynl_slots.specs.Slots.{IsUnused, IsOnly, HasDistinctNumbers, with_row, without}
+use Rattle.ynl_slots.specs.Slots.{IsUnused, HasDistinctNumbers, with_row, without}
 use Rattle.ynl_lanes.specs.lane.Levels.{AreOrdered, ArePairs}
 
 module _ {X : Type 0} where
@@ -117,32 +117,6 @@ module _ {X : Type 0} where
           let was : lookup (nat_eq n) es ≡ Some x = sym (found_other n m row es apart) ∙ found in
           others n x apart was (all n x was)
 
-  -- entries that are written
-  pub all_written : (P Q : ℕ × X → Type 0) (m : ℕ) (row was : X) (es : List (ℕ × X)) → IsOnly m was es → ((e : ℕ × X) → P e → e.1 ≡ was → e.0 ≡ m → Q (m, row)) → ((e : ℕ × X) → P e → Q e) → AllByRecursion P es → AllByRecursion Q (with_row m row es)
-  all_written P Q m row was [] only here others h = tt
-  all_written P Q m row was (e ∷ es) only here others h = (go (nat_eq m e.0) refl, all_written P Q m row was es only.1 here others h.1)
-    where
-      go : (b : Bool) → nat_eq m e.0 ≡ b → (let new : ℕ × X = cond b (e.0, row) e in Q new)
-      go true q =
-          let same : m ≡ e.0 = grind (arith, nat_tests) in
-          subst (λ k. Q (k, row)) same (here e h.0 (only.0 (sym same)) (sym same))
-      go false q = others e h.0
-
-  pub ordered_written : (R : ℕ × X → ℕ × X → Type 0) (m : ℕ) (row was : X) (es : List (ℕ × X)) → IsOnly m was es → ((e : ℕ × X) → R (m, was) e → R (m, row) e) → ((e : ℕ × X) → R e (m, was) → R e (m, row)) → AreOrdered R es → AreOrdered R (with_row m row es)
-  ordered_written R m row was [] only first second h = tt
-  ordered_written R m row was (e ∷ es) only first second h = (go (nat_eq m e.0) refl, ordered_written R m row was es only.1 first second h.1)
-    where
-      behind : (f : ℕ × X) → AllByRecursion (R f) es → AllByRecursion (R f) (with_row m row es)
-      behind f k = all_written (R f) (R f) m row was es only.1 (λ g r is key. second f (subst (λ (x : ℕ × X). R f x) (λ i. (key i, is i)) r)) (λ g r. r) k
-
-      go : (b : Bool) → nat_eq m e.0 ≡ b → (let new : ℕ × X = cond b (e.0, row) e in AllByRecursion (R new) (with_row m row es))
-      go true q =
-          let same : m ≡ e.0 = grind (arith, nat_tests) in
-          let is : e.1 ≡ was = only.0 (sym same) in
-          subst (λ k. AllByRecursion (R (k, row)) (with_row m row es)) same
-          (behind (m, row) (all_then (R e) (R (m, row)) (λ f r. first f (subst (λ (x : ℕ × X). R x f) (λ i. (sym same i, is i)) r)) es h.0))
-      go false q = behind e h.0
-
   -- what is under a number after a push
   pub found_pushed : (m n : ℕ) (row x : X) (es : List (ℕ × X)) → IsUnused m es → lookup (nat_eq n) es ≡ Some x → lookup (nat_eq n) (es ++ (m, row) ∷ []) ≡ Some x
   found_pushed m n row x es unused found = go (nat_eq n m) refl
@@ -229,15 +203,3 @@ module _ {X : Type 0} where
       go : (b : Bool) → HasDistinctNumbers (without m es) → HasDistinctNumbers (cond (not b) (e ∷ without m es) (without m es))
       go true k = k
       go false k = (all_without (λ f. f.0 ≢ e.0) m es h.0, k)
-
--- the row that is under a number is written there
-module _ {X : Type 0} where
-  pub with_row-same : (number : ℕ) (row : X) (es : List (ℕ × X)) → IsOnly number row es → with_row number row es ≡ es
-  with_row-same number row [] only = refl
-  with_row-same number row (e ∷ es) only = λ i. one (nat_eq number e.0) refl i ∷ with_row-same number row es only.1 i
-    where
-      one : (b : Bool) → nat_eq number e.0 ≡ b → cond b (e.0, row) e ≡ e
-      one true is =
-          let same : e.0 ≡ number = grind (arith, nat_tests) in
-          λ i. (e.0, sym (only.0 same) i)
-      one false is = refl

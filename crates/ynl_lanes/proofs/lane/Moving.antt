@@ -17,12 +17,11 @@ use Rattle.ynl_lanes.specs.lane.Lined.{Lined}
 use Rattle.ynl_lanes.specs.declared.lane.rows.SeatRow.{SeatRow}
 use Rattle.ynl_lanes.specs.declared.lane.rows.UserRow.{UserRow}
 use Rattle.ynl_lanes.specs.declared.lane.rows.Rows.{Rows}
-use Rattle.ynl_lanes.specs.lane.Kinds.{of_kind}
 use Rattle.ynl_lanes.specs.lane.Levels.{slot_in, at_slot, IsIn, IsBefore, AreOrdered, ArePairs, AreIn, IsMoved}
 use Rattle.ynl_lanes.specs.lane.Lines.{values_of, IsLine}
 use Rattle.ynl_lanes.specs.lane.Found.{EachSeat}
 use Rattle.ynl_lanes.specs.lane.Rooms.{IsSameSeat}
-use Rattle.ynl_lanes.specs.lane.Rows.{own_tickets, own_values, used_by, tickets_in, HasWaits, EachUser, IsUse, IsUserRow, IsSeated, IsStood, AreStood, IsKept}
+use Rattle.ynl_lanes.specs.lane.Rows.{own_tickets, own_values, used_by, waits_in, tickets_in, EachUser, IsUse, IsUserRow, IsSeated, IsStood, AreStood, IsKept}
 use Rattle.ynl_lanes.specs.lane.Waiting.{IsWaiting}
 use Rattle.ynl_lanes.proofs.lane.Lists.{all_lookup, pairs_then, pairs_same}
 use Rattle.ynl_lanes.proofs.lane.Searching.{own_slot-in}
@@ -117,17 +116,37 @@ in_paired R keys level tickets same es fs k h = record {
   ordered = pairs_ordered R keys (IsBefore level) (IsBefore level) (λ x y v w r q before m n at there. before m n (sym (same x y r) ∙ at) (sym (same v w q) ∙ there)) es fs k h.ordered;
 }
 
+-- a seat that moved is the same
+same_moved : {T : Type 0} (level : Level) (old new : Lined T) (before after : List (ℕ × UserRow)) (es fs : List (ℕ × SeatRow)) → ((x y : ℕ × SeatRow) → IsMoved level old new x y → (kind : Kind) → waits_in kind after y.1 ≡ waits_in kind before x.1) → ArePairs (IsMoved level old new) es fs → ArePairs (IsSameSeat before after) es fs
+same_moved level old new before after es fs waits k = pairs_then (IsMoved level old new) (IsSameSeat before after)
+    (λ x y m. record { ticket = m.ticket; app = ap (λ (g : SeatRow). g.app) m.row ∙ app level m.slot x.1; user = ap (λ (g : SeatRow). g.user) m.row ∙ user level m.slot x.1; waits = waits x y m }) es fs k
+  where
+    either : {Y : Type 0} (f : SeatRow → Y) (b : Bool) (r s : SeatRow) → f r ≡ f s → f (cond b r s) ≡ f s
+    either f true r s same = same
+    either f false r s same = refl
+
+    app : (level : Level) (slot : ℕ) (r : SeatRow) → (at_slot level slot r).app ≡ r.app
+    app Lane slot r = refl
+    app (User other) slot r = either (λ (g : SeatRow). g.app) (nat_eq r.user other) (record r { own_slot = slot }) r refl
+
+    user : (level : Level) (slot : ℕ) (r : SeatRow) → (at_slot level slot r).user ≡ r.user
+    user Lane slot r = refl
+    user (User other) slot r = either (λ (g : SeatRow). g.user) (nat_eq r.user other) (record r { own_slot = slot }) r refl
+
 -- the line of the lane is packed
 module _ (rows new : Rows) (kept : IsKept rows) (users : new.users ≡ rows.users) (line : IsLine new.line) (are_in : AreIn Lane new.line.tickets new.seats.entries) (distinct : HasDistinctNumbers new.seats.entries)
     (moved : ArePairs (IsMoved Lane rows.line new.line) rows.seats.entries new.seats.entries) where
   lane_keys : (x y : ℕ × SeatRow) → IsMoved Lane rows.line new.line x y → y.0 ≡ x.0
   lane_keys x y m = m.ticket
 
+  -- the same waits at a seat
+  same_waits : (kind : Kind) (x y : ℕ × SeatRow) → IsMoved Lane rows.line new.line x y → waits_in kind new.users.entries y.1 ≡ waits_in kind rows.users.entries x.1
+  same_waits kind x y m = ap (λ us. waits_in kind us.entries y.1) users ∙ ap (waits_in kind rows.users.entries) m.row
+
   seated_packed : IsSeated new
   seated_packed = record {
     distinct = distinct;
     lines = lines;
-    waits = λ n f there kind. waits n f there kind (both_new (IsMoved Lane rows.line new.line) lane_keys n f rows.seats.entries new.seats.entries moved there);
     line = line;
     users = subst (λ us. EachUser IsUserRow us.entries) (sym users) kept.seated.users;
   }
@@ -136,12 +155,6 @@ module _ (rows new : Rows) (kept : IsKept rows) (users : new.users ≡ rows.user
       lines Lane = are_in
       lines (User user) = subst (λ us. AreIn (User user) (own_tickets user us.entries) new.seats.entries) (sym users)
           (in_paired (IsMoved Lane rows.line new.line) lane_keys (User user) (own_tickets user rows.users.entries) (λ x y m. ap (slot_in (User user)) m.row) rows.seats.entries new.seats.entries moved (kept.seated.lines (User user)))
-
-      waits : (n : ℕ) (f : SeatRow) → lookup (nat_eq n) new.seats.entries ≡ Some f → (kind : Kind) → Both (IsMoved Lane rows.line new.line) lane_keys n rows.seats.entries new.seats.entries → get_or (own_values kind f.user new.users.entries) f.own_slot no_size ≡ of_kind kind f.waits
-      waits n f there kind b =
-          let is : f ≡ at_slot Lane b.pair.slot b.old.1 = same_Some _ _ (sym there ∙ b.is) ∙ b.pair.row in
-          subst (λ (g : SeatRow). get_or (own_values kind g.user new.users.entries) g.own_slot no_size ≡ of_kind kind g.waits) (sym is)
-          (ap (λ us. get_or (own_values kind b.old.1.user us.entries) b.old.1.own_slot no_size) users ∙ kept.seated.waits n b.old.1 b.was kind)
 
   stood_packed : (kind : Kind) → AreStood kind new
   stood_packed kind n f there waiting = go (both_new (IsMoved Lane rows.line new.line) lane_keys n f rows.seats.entries new.seats.entries moved there)
@@ -152,7 +165,7 @@ module _ (rows new : Rows) (kept : IsKept rows) (users : new.users ≡ rows.user
       go : Both (IsMoved Lane rows.line new.line) lane_keys n rows.seats.entries new.seats.entries → IsStood kind new.seats.entries new.users.entries (values_of kind new.line) f
       go b =
           let is : f ≡ at_slot Lane b.pair.slot b.old.1 = put n f there b in
-          let h = kept.stood kind n b.old.1 b.was (subst (λ (g : SeatRow). IsWaiting (of_kind kind g.waits)) is waiting) in
+          let h = kept.stood kind n b.old.1 b.was (subst IsWaiting (ap (waits_in kind new.users.entries) (same_Some _ _ (sym there ∙ b.is)) ∙ same_waits kind b.old b.new b.pair) waiting) in
           let s = both_old (IsMoved Lane rows.line new.line) lane_keys h.ticket h.stand rows.seats.entries new.seats.entries moved h.found in
           let old : s.old.1 ≡ h.stand = same_Some _ _ (sym s.was ∙ h.found) in
           let stand : s.new.1 ≡ at_slot Lane s.pair.slot h.stand = s.pair.row ∙ ap (at_slot Lane s.pair.slot) old in
@@ -163,27 +176,18 @@ module _ (rows new : Rows) (kept : IsKept rows) (users : new.users ≡ rows.user
             stand = s.new.1;
             found = s.is;
             user = ap (λ (g : SeatRow). g.user) stand ∙ h.user ∙ sym (ap (λ (g : SeatRow). g.user) is);
-            waits = subst (λ (g : SeatRow). IsWaiting (of_kind kind g.waits)) (sym stand) h.waits;
+            waits = subst IsWaiting (ap (waits_in kind rows.users.entries) (sym old) ∙ sym (same_waits kind s.old s.new s.pair)) h.waits;
             front = lane_order (IsMoved Lane rows.line new.line) lane_keys h.ticket n h.stand s.new.1 b.old.1 f rows.seats.entries new.seats.entries moved (kept.seated.lines Lane).ordered are_in.ordered h.found s.is b.was there h.front;
-            low = subst (λ v. IsBelowRequest v (used_by f.user new.users.entries) (of_kind kind f.waits)) (sym value)
-                (subst (λ us. IsBelowRequest (get_or (values_of kind rows.line) h.stand.slot no_user) (used_by f.user us.entries) (of_kind kind f.waits)) (sym users)
-                (subst (λ (g : SeatRow). IsBelowRequest (get_or (values_of kind rows.line) h.stand.slot no_user) (used_by g.user rows.users.entries) (of_kind kind g.waits)) (sym is) h.low));
+            low = subst (λ v. IsBelowRequest v (used_by f.user new.users.entries) (waits_in kind new.users.entries f)) (sym value)
+                (subst (λ us. IsBelowRequest (get_or (values_of kind rows.line) h.stand.slot no_user) (used_by f.user us.entries) (waits_in kind us.entries f)) (sym users)
+                (subst (λ (g : SeatRow). IsBelowRequest (get_or (values_of kind rows.line) h.stand.slot no_user) (used_by g.user rows.users.entries) (waits_in kind rows.users.entries g)) (sym is) h.low));
           }
 
   pub kept_packed : IsKept new
   kept_packed = record { seated = seated_packed; stood = stood_packed }
 
--- a seat that moved is the same
-pub same_moved : {T : Type 0} (level : Level) (old new : Lined T) (es fs : List (ℕ × SeatRow)) → ArePairs (IsMoved level old new) es fs → ArePairs IsSameSeat es fs
-same_moved level old new es fs k = pairs_then (IsMoved level old new) IsSameSeat (λ x y m. go level x y m.ticket m.slot m.row) es fs k
-  where
-    go : (level : Level) (x y : ℕ × SeatRow) → y.0 ≡ x.0 → (slot : ℕ) → y.1 ≡ at_slot level slot x.1 → IsSameSeat x y
-    go Lane x y key slot row = record { ticket = key; app = ap (λ (g : SeatRow). g.app) row; user = ap (λ (g : SeatRow). g.user) row; waits = ap (λ (g : SeatRow). g.waits) row }
-    go (User user) x y key slot row = either (nat_eq x.1.user user) row
-      where
-        either : (b : Bool) → y.1 ≡ cond b (record x.1 { own_slot = slot }) x.1 → IsSameSeat x y
-        either true r = record { ticket = key; app = ap (λ (g : SeatRow). g.app) r; user = ap (λ (g : SeatRow). g.user) r; waits = ap (λ (g : SeatRow). g.waits) r }
-        either false r = record { ticket = key; app = ap (λ (g : SeatRow). g.app) r; user = ap (λ (g : SeatRow). g.user) r; waits = ap (λ (g : SeatRow). g.waits) r }
+  pub seats_packed : ArePairs (IsSameSeat rows.users.entries new.users.entries) rows.seats.entries new.seats.entries
+  seats_packed = same_moved Lane rows.line new.line rows.users.entries new.users.entries rows.seats.entries new.seats.entries (λ x y m kind. same_waits kind x y m) moved
 
 -- a seat of another user does not move, and one of the user only in the user's line
 other_row : (user slot : ℕ) (row : SeatRow) → row.user ≢ user → at_slot (User user) slot row ≡ row
@@ -213,11 +217,29 @@ module _ (rows new : Rows) (kept : IsKept rows) (user : ℕ) (row next : UserRow
       (λ apart. of_other (λ (r : UserRow). r.used) nothing other user next rows.users.entries apart)
       (cases_eq other user)
 
+  -- the same waits at a seat, wherever it went
+  own_waits : (kind : Kind) (x y : ℕ × SeatRow) → IsMoved (User user) row.line next.line x y → waits_in kind new.users.entries y.1 ≡ waits_in kind rows.users.entries x.1
+  own_waits kind x y m = ⊎_elim mine other (cases_eq x.1.user user)
+    where
+      mine : x.1.user ≡ user → waits_in kind new.users.entries y.1 ≡ waits_in kind rows.users.entries x.1
+      mine same =
+          ap (waits_in kind new.users.entries) (m.row ∙ own_row user m.slot x.1 same)
+          ∙ ap (λ k. get_or (own_values kind k new.users.entries) m.slot no_size) same ∙ ap (λ vs. get_or vs m.slot no_size) (ap (own_values kind user) users ∙ of_written (λ (r : UserRow). values_of kind r.line) [] user row next rows.users.entries found)
+          ∙ m.values kind x.1.own_slot (own_slot-in user x.1 same) no_size
+          ∙ ap (λ vs. get_or vs x.1.own_slot no_size) (sym (ap (λ o. option_map_or (λ (r : UserRow). values_of kind r.line) o []) found)) ∙ ap (λ k. get_or (own_values kind k rows.users.entries) x.1.own_slot no_size) (sym same)
+
+      other : x.1.user ≢ user → waits_in kind new.users.entries y.1 ≡ waits_in kind rows.users.entries x.1
+      other apart =
+          ap (waits_in kind new.users.entries) (m.row ∙ other_row user m.slot x.1 apart)
+          ∙ ap (λ vs. get_or vs x.1.own_slot no_size) (ap (own_values kind x.1.user) users ∙ of_other (λ (r : UserRow). values_of kind r.line) [] x.1.user user next rows.users.entries apart)
+
+  pub seats_own : ArePairs (IsSameSeat rows.users.entries new.users.entries) rows.seats.entries new.seats.entries
+  seats_own = same_moved (User user) row.line next.line rows.users.entries new.users.entries rows.seats.entries new.seats.entries (λ x y m kind. own_waits kind x y m) moved
+
   seated_own : IsSeated new
   seated_own = record {
     distinct = distinct;
     lines = lines;
-    waits = λ n f there kind. waits n f there kind (both_new (IsMoved (User user) row.line next.line) own_keys n f rows.seats.entries new.seats.entries moved there);
     line = subst IsLine (sym lane) kept.seated.line;
     users = subst (EachUser IsUserRow) (sym users) (users_written user row next rows.users.entries found (record { line = line; small = subst IsUse (sym used) (kept.seated.users user row found).small }) kept.seated.users);
   }
@@ -240,22 +262,6 @@ module _ (rows new : Rows) (kept : IsKept rows) (user : ℕ) (row next : UserRow
               (λ away. ap (slot_in (User other)) (other_row user slot r away))
               (cases_eq r.user user)
 
-      waits : (n : ℕ) (f : SeatRow) → lookup (nat_eq n) new.seats.entries ≡ Some f → (kind : Kind) → Both (IsMoved (User user) row.line next.line) own_keys n rows.seats.entries new.seats.entries → get_or (own_values kind f.user new.users.entries) f.own_slot no_size ≡ of_kind kind f.waits
-      waits n f there kind b =
-          let is : f ≡ at_slot (User user) b.pair.slot b.old.1 = same_Some _ _ (sym there ∙ b.is) ∙ b.pair.row in
-          subst (λ (g : SeatRow). get_or (own_values kind g.user new.users.entries) g.own_slot no_size ≡ of_kind kind g.waits) (sym is) (⊎_elim mine other (cases_eq b.old.1.user user))
-        where
-          mine : b.old.1.user ≡ user → (let g : SeatRow = at_slot (User user) b.pair.slot b.old.1 in get_or (own_values kind g.user new.users.entries) g.own_slot no_size ≡ of_kind kind g.waits)
-          mine same = subst (λ (g : SeatRow). get_or (own_values kind g.user new.users.entries) g.own_slot no_size ≡ of_kind kind g.waits) (sym (own_row user b.pair.slot b.old.1 same))
-              (ap (λ k. get_or (own_values kind k new.users.entries) b.pair.slot no_size) same ∙ ap (λ vs. get_or vs b.pair.slot no_size) (ap (own_values kind user) users ∙ of_written (λ (r : UserRow). values_of kind r.line) [] user row next rows.users.entries found)
-              ∙ b.pair.values kind b.old.1.own_slot (own_slot-in user b.old.1 same) no_size
-              ∙ ap (λ vs. get_or vs b.old.1.own_slot no_size) (sym (ap (λ o. option_map_or (λ (r : UserRow). values_of kind r.line) o []) found)) ∙ ap (λ k. get_or (own_values kind k rows.users.entries) b.old.1.own_slot no_size) (sym same)
-              ∙ kept.seated.waits n b.old.1 b.was kind)
-
-          other : b.old.1.user ≢ user → (let g : SeatRow = at_slot (User user) b.pair.slot b.old.1 in get_or (own_values kind g.user new.users.entries) g.own_slot no_size ≡ of_kind kind g.waits)
-          other apart = subst (λ (g : SeatRow). get_or (own_values kind g.user new.users.entries) g.own_slot no_size ≡ of_kind kind g.waits) (sym (other_row user b.pair.slot b.old.1 apart))
-              (ap (λ vs. get_or vs b.old.1.own_slot no_size) (ap (own_values kind b.old.1.user) users ∙ of_other (λ (r : UserRow). values_of kind r.line) [] b.old.1.user user next rows.users.entries apart) ∙ kept.seated.waits n b.old.1 b.was kind)
-
   stood_own : (kind : Kind) → AreStood kind new
   stood_own kind n f there waiting = go (both_new (IsMoved (User user) row.line next.line) own_keys n f rows.seats.entries new.seats.entries moved there)
     where
@@ -263,22 +269,23 @@ module _ (rows new : Rows) (kept : IsKept rows) (user : ℕ) (row next : UserRow
       go b =
           let is : f ≡ at_slot (User user) b.pair.slot b.old.1 = same_Some _ _ (sym there ∙ b.is) ∙ b.pair.row in
           let user_is : f.user ≡ b.old.1.user = ap (λ (g : SeatRow). g.user) is ∙ own_same (λ (g : SeatRow). g.user) (λ r slot. refl) b.pair.slot b.old.1 in
-          let waits_is : of_kind kind f.waits ≡ of_kind kind b.old.1.waits = ap (λ (g : SeatRow). of_kind kind g.waits) is ∙ own_same (λ (g : SeatRow). of_kind kind g.waits) (λ r slot. refl) b.pair.slot b.old.1 in
+          let waits_is : waits_in kind new.users.entries f ≡ waits_in kind rows.users.entries b.old.1 = ap (waits_in kind new.users.entries) (same_Some _ _ (sym there ∙ b.is)) ∙ own_waits kind b.old b.new b.pair in
           let slot_is : f.slot ≡ b.old.1.slot = ap (λ (g : SeatRow). g.slot) is ∙ own_same (λ (g : SeatRow). g.slot) (λ r slot. refl) b.pair.slot b.old.1 in
           let h = kept.stood kind n b.old.1 b.was (subst IsWaiting waits_is waiting) in
           let s = both_old (IsMoved (User user) row.line next.line) own_keys h.ticket h.stand rows.seats.entries new.seats.entries moved h.found in
-          let stand : s.new.1 ≡ at_slot (User user) s.pair.slot h.stand = s.pair.row ∙ ap (at_slot (User user) s.pair.slot) (same_Some _ _ (sym s.was ∙ h.found)) in
+          let old : s.old.1 ≡ h.stand = same_Some _ _ (sym s.was ∙ h.found) in
+          let stand : s.new.1 ≡ at_slot (User user) s.pair.slot h.stand = s.pair.row ∙ ap (at_slot (User user) s.pair.slot) old in
           let slot : s.new.1.slot ≡ h.stand.slot = ap (λ (g : SeatRow). g.slot) stand ∙ own_same (λ (g : SeatRow). g.slot) (λ r slot. refl) s.pair.slot h.stand in
           record {
             ticket = h.ticket;
             stand = s.new.1;
             found = s.is;
             user = ap (λ (g : SeatRow). g.user) stand ∙ own_same (λ (g : SeatRow). g.user) (λ r slot. refl) s.pair.slot h.stand ∙ h.user ∙ sym user_is;
-            waits = subst IsWaiting (sym (ap (λ (g : SeatRow). of_kind kind g.waits) stand ∙ own_same (λ (g : SeatRow). of_kind kind g.waits) (λ r slot. refl) s.pair.slot h.stand)) h.waits;
+            waits = subst IsWaiting (ap (waits_in kind rows.users.entries) (sym old) ∙ sym (own_waits kind s.old s.new s.pair)) h.waits;
             front = (let front = h.front in omega (arith, slot, slot_is, front));
-            low = subst (λ l. IsBelowRequest (get_or (values_of kind l) s.new.1.slot no_user) (used_by f.user new.users.entries) (of_kind kind f.waits)) (sym lane)
-                (subst (λ k. IsBelowRequest (get_or (values_of kind rows.line) k no_user) (used_by f.user new.users.entries) (of_kind kind f.waits)) (sym slot)
-                (subst (λ u. IsBelowRequest (get_or (values_of kind rows.line) h.stand.slot no_user) u (of_kind kind f.waits)) (sym (same_used f.user ∙ ap (λ k. used_by k rows.users.entries) user_is))
+            low = subst (λ l. IsBelowRequest (get_or (values_of kind l) s.new.1.slot no_user) (used_by f.user new.users.entries) (waits_in kind new.users.entries f)) (sym lane)
+                (subst (λ k. IsBelowRequest (get_or (values_of kind rows.line) k no_user) (used_by f.user new.users.entries) (waits_in kind new.users.entries f)) (sym slot)
+                (subst (λ u. IsBelowRequest (get_or (values_of kind rows.line) h.stand.slot no_user) u (waits_in kind new.users.entries f)) (sym (same_used f.user ∙ ap (λ k. used_by k rows.users.entries) user_is))
                 (subst (λ w. IsBelowRequest (get_or (values_of kind rows.line) h.stand.slot no_user) (used_by b.old.1.user rows.users.entries) w) (sym waits_is) h.low)));
           }
 
@@ -291,18 +298,17 @@ kept_like rows new kept seats users line = record {
   seated = record {
     distinct = subst HasDistinctNumbers (sym seats) kept.seated.distinct;
     lines = lines;
-    waits = subst (λ es. EachSeat (HasWaits new.users.entries) es) (sym seats) (subst (λ us. EachSeat (HasWaits us) rows.seats.entries) (sym users) kept.seated.waits);
     line = subst IsLine (sym line) kept.seated.line;
     users = subst (EachUser IsUserRow) (sym users) kept.seated.users;
   };
-  stood = λ kind. subst (λ es. EachSeat (λ _ e. IsWaiting (of_kind kind e.waits) → IsStood kind es new.users.entries (values_of kind new.line) e) es) (sym seats)
-      (subst (λ us. EachSeat (λ _ e. IsWaiting (of_kind kind e.waits) → IsStood kind rows.seats.entries us (values_of kind new.line) e) rows.seats.entries) (sym users)
-      (subst (λ l. EachSeat (λ _ e. IsWaiting (of_kind kind e.waits) → IsStood kind rows.seats.entries rows.users.entries (values_of kind l) e) rows.seats.entries) (sym line) (kept.stood kind)));
+  stood = λ kind. subst (λ es. EachSeat (λ _ e. IsWaiting (waits_in kind new.users.entries e) → IsStood kind es new.users.entries (values_of kind new.line) e) es) (sym seats)
+      (subst (λ us. EachSeat (λ _ e. IsWaiting (waits_in kind us e) → IsStood kind rows.seats.entries us (values_of kind new.line) e) rows.seats.entries) (sym users)
+      (subst (λ l. EachSeat (λ _ e. IsWaiting (waits_in kind rows.users.entries e) → IsStood kind rows.seats.entries rows.users.entries (values_of kind l) e) rows.seats.entries) (sym line) (kept.stood kind)));
 }
   where
     lines : (level : Level) → AreIn level (tickets_in level new) new.seats.entries
     lines Lane = subst (λ l. AreIn Lane l.tickets new.seats.entries) (sym line) (subst (AreIn Lane rows.line.tickets) (sym seats) (kept.seated.lines Lane))
     lines (User user) = subst (λ us. AreIn (User user) (own_tickets user us) new.seats.entries) (sym users) (subst (AreIn (User user) (own_tickets user rows.users.entries)) (sym seats) (kept.seated.lines (User user)))
 
-pub same_seats : (es fs : List (ℕ × SeatRow)) → fs ≡ es → ArePairs IsSameSeat es fs
-same_seats es fs same = subst (ArePairs IsSameSeat es) (sym same) (pairs_same IsSameSeat (λ e. record { ticket = refl; app = refl; user = refl; waits = refl }) es)
+pub same_seats : (users : List (ℕ × UserRow)) (es fs : List (ℕ × SeatRow)) → fs ≡ es → ArePairs (IsSameSeat users users) es fs
+same_seats users es fs same = subst (ArePairs (IsSameSeat users users) es) (sym same) (pairs_same (IsSameSeat users users) (λ e. record { ticket = refl; app = refl; user = refl; waits = λ kind. refl }) es)

@@ -17,20 +17,18 @@ use Rattle.ynl_lanes.specs.declared.lane.rows.SeatRow.{SeatRow}
 use Rattle.ynl_lanes.specs.declared.lane.rows.UserRow.{UserRow}
 use Rattle.ynl_lanes.specs.declared.lane.rows.Rows.{Rows}
 use Rattle.ynl_lanes.specs.lane.Changes.{IsPulled, shown, ShowsOther}
-use Rattle.ynl_lanes.specs.lane.Kinds.{of_kind}
 use Rattle.ynl_lanes.specs.lane.Levels.{slot_in, IsIn, IsBefore, AreOrdered, AreIn}
 use Rattle.ynl_lanes.specs.lane.Lines.{values_of, IsLine}
 use Rattle.ynl_lanes.specs.lane.Found.{EachSeat}
-use Rattle.ynl_lanes.specs.lane.Seats.{nothing_waits}
-use Rattle.ynl_lanes.specs.lane.Rows.{of_user, own_tickets, used_by, tickets_in, HasWaits, EachUser, IsUserRow, IsSeated, IsStood, AreStood, IsKept}
+use Rattle.ynl_lanes.specs.lane.Rows.{of_user, own_tickets, used_by, waits_in, WaitSame, tickets_in, EachUser, IsUserRow, IsSeated, IsStood, AreStood, IsKept}
 use Rattle.ynl_lanes.specs.lane.Waiting.{IsWaiting}
 use Rattle.ynl_lanes.proofs.lane.Lists.{all_without, ordered_without, found_written, found_other, found_without, was_without, distinct_without}
 use Rattle.ynl_lanes.proofs.lane.Found.{all_from_each}
 use Rattle.ynl_lanes.proofs.lane.Changing.{of_written, of_other, users_written}
-use Rattle.ynl_lanes.proofs.lane.Pushing.{none_of, not_waiting}
+use Rattle.ynl_lanes.proofs.lane.Pushing.{not_waiting}
 
 -- a seat goes at which nothing waits
-module _ (rows new : Rows) (kept : IsKept rows) (ticket : ℕ) (row : SeatRow) (found : lookup (nat_eq ticket) rows.seats.entries ≡ Some row) (idle : row.waits ≡ nothing_waits)
+module _ (rows new : Rows) (kept : IsKept rows) (ticket : ℕ) (row : SeatRow) (found : lookup (nat_eq ticket) rows.seats.entries ≡ Some row) (idle : (kind : Kind) → waits_in kind rows.users.entries row ≡ no_size)
     (seats : new.seats.entries ≡ without ticket rows.seats.entries) (user : ℕ) (pulls : IsPulled user rows.users.entries new.users.entries) (line : new.line ≡ rows.line) where
   same_of : {X : Type 0} (f : UserRow → X) (none : X) → f (record pulls.row { live = pulls.row.live - 1 }) ≡ f pulls.row → (other : ℕ) → of_user f none other new.users.entries ≡ of_user f none other rows.users.entries
   same_of f none same other = ap (of_user f none other) pulls.entries ∙ ⊎_elim
@@ -38,12 +36,13 @@ module _ (rows new : Rows) (kept : IsKept rows) (ticket : ℕ) (row : SeatRow) (
       (λ apart. of_other f none other user (record pulls.row { live = pulls.row.live - 1 }) rows.users.entries apart)
       (cases_eq other user)
 
+  pub waits_pulled : (e : SeatRow) → WaitSame rows.users.entries new.users.entries e
+  waits_pulled e kind = ap (λ vs. get_or vs e.own_slot no_size) (same_of (λ (r : UserRow). values_of kind r.line) [] refl e.user)
+
   seated_pulled : IsSeated new
   seated_pulled = record {
     distinct = subst HasDistinctNumbers (sym seats) (distinct_without ticket rows.seats.entries kept.seated.distinct);
     lines = lines;
-    waits = subst (λ es. EachSeat (HasWaits new.users.entries) es) (sym seats) (λ n e there kind.
-        ap (λ vs. get_or vs e.own_slot no_size) (same_of (λ (r : UserRow). values_of kind r.line) [] refl e.user) ∙ kept.seated.waits n e (was_without ticket n e rows.seats.entries there).1 kind);
     line = subst IsLine (sym line) kept.seated.line;
     users = subst (EachUser IsUserRow) (sym pulls.entries) (users_written user pulls.row (record pulls.row { live = pulls.row.live - 1 }) rows.users.entries pulls.found (record { line = (kept.seated.users user pulls.row pulls.found).line; small = (kept.seated.users user pulls.row pulls.found).small }) kept.seated.users);
   }
@@ -60,23 +59,24 @@ module _ (rows new : Rows) (kept : IsKept rows) (ticket : ℕ) (row : SeatRow) (
 
   stood_pulled : (kind : Kind) → AreStood kind new
   stood_pulled kind =
-      subst (λ es. EachSeat (λ _ e. IsWaiting (of_kind kind e.waits) → IsStood kind es new.users.entries (values_of kind new.line) e) es) (sym seats)
-      (λ n e there waiting. others e (kept.stood kind n e (was_without ticket n e rows.seats.entries there).1 waiting))
+      subst (λ es. EachSeat (λ _ e. IsWaiting (waits_in kind new.users.entries e) → IsStood kind es new.users.entries (values_of kind new.line) e) es) (sym seats)
+      (λ n e there waiting. others e (kept.stood kind n e (was_without ticket n e rows.seats.entries there).1 (subst IsWaiting (waits_pulled e kind) waiting)))
     where
       others : (e : SeatRow) → IsStood kind rows.seats.entries rows.users.entries (values_of kind rows.line) e → IsStood kind (without ticket rows.seats.entries) new.users.entries (values_of kind new.line) e
       others e h =
           let away : h.ticket ≢ ticket = λ same. (
           let is : h.stand ≡ row = same_Some _ _ (sym h.found ∙ ap (λ k. lookup (nat_eq k) rows.seats.entries) same ∙ found) in
-          not_waiting (subst IsWaiting (ap (λ (x : SeatRow). of_kind kind x.waits) is ∙ ap (of_kind kind) idle ∙ none_of kind) h.waits)) in
+          not_waiting (subst IsWaiting (ap (waits_in kind rows.users.entries) is ∙ idle kind) h.waits)) in
           record {
             ticket = h.ticket;
             stand = h.stand;
             found = found_without ticket h.ticket h.stand rows.seats.entries away h.found;
             user = h.user;
-            waits = h.waits;
+            waits = subst IsWaiting (sym (waits_pulled h.stand kind)) h.waits;
             front = h.front;
-            low = subst (λ l. IsBelowRequest (get_or (values_of kind l) h.stand.slot no_user) (used_by e.user new.users.entries) (of_kind kind e.waits)) (sym line)
-                (subst (λ u. IsBelowRequest (get_or (values_of kind rows.line) h.stand.slot no_user) u (of_kind kind e.waits)) (sym (same_of (λ (r : UserRow). r.used) nothing refl e.user)) h.low);
+            low = subst (λ l. IsBelowRequest (get_or (values_of kind l) h.stand.slot no_user) (used_by e.user new.users.entries) (waits_in kind new.users.entries e)) (sym line)
+                (subst (λ u. IsBelowRequest (get_or (values_of kind rows.line) h.stand.slot no_user) u (waits_in kind new.users.entries e)) (sym (same_of (λ (r : UserRow). r.used) nothing refl e.user))
+                (subst (IsBelowRequest (get_or (values_of kind rows.line) h.stand.slot no_user) (used_by e.user rows.users.entries)) (sym (waits_pulled e kind)) h.low));
           }
 
   pub kept_pulled : IsKept new
@@ -116,25 +116,28 @@ module _ (rows new : Rows) (kept : IsKept rows) (user : ℕ) (seats : new.seats 
   same_but : {X : Type 0} (f : UserRow → X) (default : X) (other : ℕ) → other ≢ user → of_user f default other new.users.entries ≡ of_user f default other rows.users.entries
   same_but f default other apart = ap (λ o. option_map_or f o default) (others other apart)
 
+  waits_but : (e : SeatRow) → e.user ≢ user → WaitSame rows.users.entries new.users.entries e
+  waits_but e apart kind = ap (λ vs. get_or vs e.own_slot no_size) (same_but (λ (r : UserRow). values_of kind r.line) [] e.user apart)
+
   pub kept_but : IsKept new
   kept_but = record {
     seated = record {
       distinct = subst (λ s. HasDistinctNumbers s.entries) (sym seats) kept.seated.distinct;
       lines = lines;
-      waits = subst (λ s. EachSeat (HasWaits new.users.entries) s.entries) (sym seats) (λ n e there kind. ap (λ vs. get_or vs e.own_slot no_size) (same_but (λ (r : UserRow). values_of kind r.line) [] e.user (none n e there)) ∙ kept.seated.waits n e there kind);
       line = subst IsLine (sym line) kept.seated.line;
       users = users;
     };
-    stood = λ kind. subst (λ s. EachSeat (λ _ e. IsWaiting (of_kind kind e.waits) → IsStood kind s.entries new.users.entries (values_of kind new.line) e) s.entries) (sym seats)
-        (subst (λ l. EachSeat (λ _ e. IsWaiting (of_kind kind e.waits) → IsStood kind rows.seats.entries new.users.entries (values_of kind l) e) rows.seats.entries) (sym line)
-        (λ n e there waiting. (let h = kept.stood kind n e there waiting in record {
+    stood = λ kind. subst (λ s. EachSeat (λ _ e. IsWaiting (waits_in kind new.users.entries e) → IsStood kind s.entries new.users.entries (values_of kind new.line) e) s.entries) (sym seats)
+        (subst (λ l. EachSeat (λ _ e. IsWaiting (waits_in kind new.users.entries e) → IsStood kind rows.seats.entries new.users.entries (values_of kind l) e) rows.seats.entries) (sym line)
+        (λ n e there waiting. (let stays = waits_but e (none n e there) kind in let h = kept.stood kind n e there (subst IsWaiting stays waiting) in record {
           ticket = h.ticket;
           stand = h.stand;
           found = h.found;
           user = h.user;
-          waits = h.waits;
+          waits = subst IsWaiting (sym (waits_but h.stand (none h.ticket h.stand h.found) kind)) h.waits;
           front = h.front;
-          low = subst (λ u. IsBelowRequest (get_or (values_of kind rows.line) h.stand.slot no_user) u (of_kind kind e.waits)) (sym (same_but (λ (r : UserRow). r.used) nothing e.user (none n e there))) h.low;
+          low = subst (λ u. IsBelowRequest (get_or (values_of kind rows.line) h.stand.slot no_user) u (waits_in kind new.users.entries e)) (sym (same_but (λ (r : UserRow). r.used) nothing e.user (none n e there)))
+              (subst (IsBelowRequest (get_or (values_of kind rows.line) h.stand.slot no_user) (used_by e.user rows.users.entries)) (sym stays) h.low);
         })));
   }
     where

@@ -18,13 +18,13 @@ use Rattle.ynl_lanes.specs.declared.lane.levels.Level.TheVariants.{Lane, User}
 use Rattle.ynl_lanes.specs.declared.lane.rows.SeatRow.{SeatRow}
 use Rattle.ynl_lanes.specs.declared.lane.rows.UserRow.{UserRow}
 use Rattle.ynl_lanes.specs.declared.lane.rows.Rows.{Rows}
-use Rattle.ynl_lanes.specs.lane.Changes.{IsOwnRoom, PushesOwn, shown, ShowsOther}
+use Rattle.ynl_lanes.specs.lane.Changes.{IsOwnRoom, KeepWaits, PushesOwn, shown, ShowsOther}
 use Rattle.ynl_lanes.specs.lane.Kinds.{of_kind}
 use Rattle.ynl_lanes.specs.lane.Levels.{slot_in, IsIn, IsBefore, AreIn}
 use Rattle.ynl_lanes.specs.lane.Lines.{values_of, HasRoom}
 use Rattle.ynl_lanes.specs.lane.Found.{EachSeat}
 use Rattle.ynl_lanes.specs.lane.Seats.{nothing_waits}
-use Rattle.ynl_lanes.specs.lane.Rows.{own_tickets, own_values, used_by, tickets_in, HasWaits, EachUser, IsUse, IsUserRow, IsSeated, IsStood, AreStood, IsKept}
+use Rattle.ynl_lanes.specs.lane.Rows.{own_tickets, own_values, used_by, waits_in, tickets_in, EachUser, IsUse, IsUserRow, IsSeated, IsStood, AreStood, IsKept}
 use Rattle.ynl_lanes.specs.lane.Waiting.{IsWaiting}
 use Rattle.ynl_lanes.proofs.lane.Lists.{all_then, all_append, ordered_push, found_written, found_other, found_pushed, each_pushed, distinct_pushed}
 use Rattle.ynl_lanes.proofs.lane.Found.{in_line-at}
@@ -67,7 +67,7 @@ none_of Master = refl
 none_of Ask = refl
 
 module _ (rows new : Rows) (kept : IsKept rows) (app user ticket : ℕ) (unused : IsUnused ticket rows.seats.entries) (room : HasRoom rows.line) (own_room : IsOwnRoom user rows.users.entries) (pushes : PushesOwn user ticket rows.users.entries new.users.entries) (row : SeatRow)
-    (user_is : row.user ≡ user) (slot_is : row.slot ≡ length rows.line.tickets) (own_is : row.own_slot ≡ length pushes.row.line.tickets) (waits_is : row.waits ≡ nothing_waits)
+    (user_is : row.user ≡ user) (slot_is : row.slot ≡ length rows.line.tickets) (own_is : row.own_slot ≡ length pushes.row.line.tickets)
     (seats : new.seats.entries ≡ rows.seats.entries ++ (ticket, row) ∷ []) (tickets : new.line.tickets ≡ rows.line.tickets ++ ticket ∷ [])
     (masters : new.line.masters ≡ set rows.line.masters (length rows.line.tickets) no_user) (asks : new.line.asks ≡ set rows.line.asks (length rows.line.tickets) no_user) where
   own_new : own_tickets user new.users.entries ≡ pushes.row.line.tickets ++ ticket ∷ []
@@ -88,26 +88,25 @@ module _ (rows new : Rows) (kept : IsKept rows) (app user ticket : ℕ) (unused 
   own_inside Master = (own_room pushes.row pushes.found).0.masters
   own_inside Ask = (own_room pushes.row pushes.found).0.asks
 
-  waits_here : HasWaits new.users.entries ticket row
+  waits_here : (kind : Kind) → waits_in kind new.users.entries row ≡ no_size
   waits_here kind =
       ap (λ k. get_or (own_values kind k new.users.entries) row.own_slot no_size) user_is ∙ ap (λ n. get_or (own_values kind user new.users.entries) n no_size) own_is
       ∙ ap (λ vs. get_or vs (length pushes.row.line.tickets) no_size) (own_values_new kind) ∙ get_or-set_same (values_of kind pushes.row.line) (length pushes.row.line.tickets) no_size no_size (own_inside kind)
-      ∙ sym (none_of kind) ∙ ap (of_kind kind) (sym waits_is)
 
-  waits_there : (n : ℕ) (x : SeatRow) → lookup (nat_eq n) rows.seats.entries ≡ Some x → HasWaits rows.users.entries n x → HasWaits new.users.entries n x
-  waits_there n x there h kind = ⊎_elim own other (cases_eq x.user user)
+  waits_there : KeepWaits rows.users.entries new.users.entries rows.seats.entries
+  waits_there n x there kind = ⊎_elim own other (cases_eq x.user user)
     where
-      own : x.user ≡ user → get_or (own_values kind x.user new.users.entries) x.own_slot no_size ≡ of_kind kind x.waits
+      own : x.user ≡ user → waits_in kind new.users.entries x ≡ waits_in kind rows.users.entries x
       own same =
           let line = own_line rows kept.seated user pushes.row pushes.found in
           let inside : x.own_slot < length pushes.row.line.tickets = slice_get_within pushes.row.line.tickets x.own_slot n (in_line-at (User user) pushes.row.line.tickets rows.seats.entries n x.own_slot x line.1 there (own_slot-in user x same)) in
           let away : x.own_slot ≢ length pushes.row.line.tickets = λ is. omega (arith, inside, is) in
           ap (λ k. get_or (own_values kind k new.users.entries) x.own_slot no_size) same ∙ ap (λ vs. get_or vs x.own_slot no_size) (own_values_new kind)
           ∙ get_or-set_other (values_of kind pushes.row.line) (length pushes.row.line.tickets) x.own_slot no_size no_size away
-          ∙ ap (λ vs. get_or vs x.own_slot no_size) (sym (ap (λ o. option_map_or (λ (r : UserRow). values_of kind r.line) o []) pushes.found)) ∙ ap (λ k. get_or (own_values kind k rows.users.entries) x.own_slot no_size) (sym same) ∙ h kind
+          ∙ ap (λ vs. get_or vs x.own_slot no_size) (sym (ap (λ o. option_map_or (λ (r : UserRow). values_of kind r.line) o []) pushes.found)) ∙ ap (λ k. get_or (own_values kind k rows.users.entries) x.own_slot no_size) (sym same)
 
-      other : x.user ≢ user → get_or (own_values kind x.user new.users.entries) x.own_slot no_size ≡ of_kind kind x.waits
-      other away = ap (λ vs. get_or vs x.own_slot no_size) (ap (own_values kind x.user) pushes.entries ∙ of_other (λ (r : UserRow). values_of kind r.line) [] x.user user pushes.next rows.users.entries away) ∙ h kind
+      other : x.user ≢ user → waits_in kind new.users.entries x ≡ waits_in kind rows.users.entries x
+      other away = ap (λ vs. get_or vs x.own_slot no_size) (ap (own_values kind x.user) pushes.entries ∙ of_other (λ (r : UserRow). values_of kind r.line) [] x.user user pushes.next rows.users.entries away)
 
   same_used : (other : ℕ) → used_by other new.users.entries ≡ used_by other rows.users.entries
   same_used other = ap (used_by other) pushes.entries ∙ ⊎_elim
@@ -119,7 +118,6 @@ module _ (rows new : Rows) (kept : IsKept rows) (app user ticket : ℕ) (unused 
   seated_pushed = record {
     distinct = subst HasDistinctNumbers (sym seats) (distinct_pushed ticket row rows.seats.entries unused kept.seated.distinct);
     lines = lines;
-    waits = subst (λ es. EachSeat (HasWaits new.users.entries) es) (sym seats) (each_pushed (HasWaits rows.users.entries) (HasWaits new.users.entries) ticket row rows.seats.entries unused waits_here waits_there kept.seated.waits);
     line = record {
       small = (let n = ap length tickets ∙ length-append rows.line.tickets (ticket ∷ []) in let s = room.small in omega (arith, n, s));
       masters = (let n = ap length tickets ∙ length-append rows.line.tickets (ticket ∷ []) in let m = ap length masters ∙ length-set rows.line.masters (length rows.line.tickets) no_user in let s = room.masters in omega (arith, n, m, s));
@@ -162,13 +160,13 @@ module _ (rows new : Rows) (kept : IsKept rows) (app user ticket : ℕ) (unused 
 
   stood_pushed : (kind : Kind) → AreStood kind new
   stood_pushed kind =
-      subst (λ es. EachSeat (λ _ e. IsWaiting (of_kind kind e.waits) → IsStood kind es new.users.entries (values_of kind new.line) e) es) (sym seats)
-      (each_pushed (λ _ e. IsWaiting (of_kind kind e.waits) → IsStood kind rows.seats.entries rows.users.entries (values_of kind rows.line) e)
-      (λ _ e. IsWaiting (of_kind kind e.waits) → IsStood kind (rows.seats.entries ++ (ticket, row) ∷ []) new.users.entries (values_of kind new.line) e)
-      ticket row rows.seats.entries unused (λ waiting. absurd (not_waiting (subst IsWaiting (ap (of_kind kind) waits_is ∙ none_of kind) waiting))) (λ n e there h waiting. others e (h waiting)) (kept.stood kind))
+      subst (λ es. EachSeat (λ _ e. IsWaiting (waits_in kind new.users.entries e) → IsStood kind es new.users.entries (values_of kind new.line) e) es) (sym seats)
+      (each_pushed (λ _ e. IsWaiting (waits_in kind rows.users.entries e) → IsStood kind rows.seats.entries rows.users.entries (values_of kind rows.line) e)
+      (λ _ e. IsWaiting (waits_in kind new.users.entries e) → IsStood kind (rows.seats.entries ++ (ticket, row) ∷ []) new.users.entries (values_of kind new.line) e)
+      ticket row rows.seats.entries unused (λ waiting. absurd (not_waiting (subst IsWaiting (waits_here kind) waiting))) (λ n e there h waiting. others n e there (h (subst IsWaiting (waits_there n e there kind) waiting))) (kept.stood kind))
     where
-      others : (e : SeatRow) → IsStood kind rows.seats.entries rows.users.entries (values_of kind rows.line) e → IsStood kind (rows.seats.entries ++ (ticket, row) ∷ []) new.users.entries (values_of kind new.line) e
-      others e h =
+      others : (n : ℕ) (e : SeatRow) → lookup (nat_eq n) rows.seats.entries ≡ Some e → IsStood kind rows.seats.entries rows.users.entries (values_of kind rows.line) e → IsStood kind (rows.seats.entries ++ (ticket, row) ∷ []) new.users.entries (values_of kind new.line) e
+      others n e there h =
           let inside : h.stand.slot < length rows.line.tickets = slice_get_within rows.line.tickets h.stand.slot h.ticket (in_line-at Lane rows.line.tickets rows.seats.entries h.ticket h.stand.slot h.stand (kept.seated.lines Lane) h.found refl) in
           let away : h.stand.slot ≢ length rows.line.tickets = λ is. omega (arith, inside, is) in
           let value = ap (λ vs. get_or vs h.stand.slot no_user) (lane_values kind) ∙ get_or-set_other (values_of kind rows.line) (length rows.line.tickets) h.stand.slot no_user no_user away in
@@ -177,9 +175,11 @@ module _ (rows new : Rows) (kept : IsKept rows) (app user ticket : ℕ) (unused 
             stand = h.stand;
             found = found_pushed ticket h.ticket row h.stand rows.seats.entries unused h.found;
             user = h.user;
-            waits = h.waits;
+            waits = subst IsWaiting (sym (waits_there h.ticket h.stand h.found kind)) h.waits;
             front = h.front;
-            low = subst (λ v. IsBelowRequest v (used_by e.user new.users.entries) (of_kind kind e.waits)) (sym value) (subst (λ u. IsBelowRequest (get_or (values_of kind rows.line) h.stand.slot no_user) u (of_kind kind e.waits)) (sym (same_used e.user)) h.low);
+            low = subst (λ v. IsBelowRequest v (used_by e.user new.users.entries) (waits_in kind new.users.entries e)) (sym value)
+                (subst (λ u. IsBelowRequest (get_or (values_of kind rows.line) h.stand.slot no_user) u (waits_in kind new.users.entries e)) (sym (same_used e.user))
+                (subst (IsBelowRequest (get_or (values_of kind rows.line) h.stand.slot no_user) (used_by e.user rows.users.entries)) (sym (waits_there n e there kind)) h.low));
           }
 
   kept_pushed : IsKept new
@@ -191,5 +191,12 @@ module _ (rows new : Rows) (kept : IsKept rows) (app user ticket : ℕ) (unused 
     others = λ other apart. ap (λ us. option_map shown (lookup (nat_eq other) us)) pushes.entries ∙ ap (option_map shown) (found_other other user pushes.next rows.users.entries apart);
   }
 
-  pub pushed : IsKept new × ShowsOther user (λ s. record s { live = s.live + 1 }) rows.users.entries new.users.entries
-  pushed = (kept_pushed, shown_pushed)
+  -- the new seat at which nothing waits, and what waits at the others
+  pub record Pushed : Type 0 where
+    pub stays : IsKept new
+    pub users : ShowsOther user (λ s. record s { live = s.live + 1 }) rows.users.entries new.users.entries
+    pub none : (kind : Kind) → waits_in kind new.users.entries row ≡ no_size
+    pub waits : KeepWaits rows.users.entries new.users.entries rows.seats.entries
+
+  pub pushed : Pushed
+  pushed = record { stays = kept_pushed; users = shown_pushed; none = waits_here; waits = waits_there }

@@ -14,11 +14,10 @@ use Rattle.ynl_lanes.specs.declared.lane.levels.Level.TheVariants.{Lane, User}
 use Rattle.ynl_lanes.specs.declared.lane.rows.SeatRow.{SeatRow}
 use Rattle.ynl_lanes.specs.declared.lane.rows.UserRow.{UserRow}
 use Rattle.ynl_lanes.specs.declared.lane.rows.Rows.{Rows}
-use Rattle.ynl_lanes.specs.lane.Kinds.{of_kind}
 use Rattle.ynl_lanes.specs.lane.Levels.{slot_in, IsBefore, AreOrdered, AreIn}
 use Rattle.ynl_lanes.specs.lane.Lines.{values_of, IsLine}
 use Rattle.ynl_lanes.specs.lane.Found.{EachSeat, IsSeatAt}
-use Rattle.ynl_lanes.specs.lane.Rows.{own_values, IsSeated}
+use Rattle.ynl_lanes.specs.lane.Rows.{own_values, waits_in, IsSeated}
 use Rattle.ynl_lanes.specs.lane.Search.{NoneBefore, IsFirstGiven, IsOwn}
 use Rattle.ynl_lanes.proofs.lane.Lists.{all_lookup, all_both}
 use Rattle.ynl_lanes.proofs.lane.Found.{in_line-at, one_at}
@@ -65,7 +64,7 @@ both_ordered user (e ∷ es) h k = (all_both (IsBefore Lane e) (IsBefore (User u
 
 -- a search of a user's seats has passed over all before a slot of the user's line
 abbrev pub HasPassed : {F : Type 0} → Rows → ℕ → Kind → (Resource → Type 0) → (ℕ → Option F) → ℕ → ℕ → Type 0
-HasPassed rows user kind passes gives limit from = EachSeat (λ _ seat. IsOwn user kind passes seat → IsSome (gives seat.app) → (limit ≤ seat.slot) ⊎ (from ≤ seat.own_slot)) rows.seats.entries
+HasPassed rows user kind passes gives limit from = EachSeat (λ _ seat. IsOwn rows.users.entries user kind passes seat → IsSome (gives seat.app) → (limit ≤ seat.slot) ⊎ (from ≤ seat.own_slot)) rows.seats.entries
 
 module _ (rows : Rows) (seated : IsSeated rows) where
   -- a user's seat that is not before another in the user's line is not before it in the lane
@@ -86,12 +85,12 @@ module _ (rows : Rows) (seated : IsSeated rows) where
 
   -- what waits at a user's seat stands in the line
   pub own_value : (kind : Kind) (user : ℕ) (row : UserRow) → lookup (nat_eq user) rows.users.entries ≡ Some row → (n : ℕ) (seat : SeatRow) → lookup (nat_eq n) rows.seats.entries ≡ Some seat → seat.user ≡ user
-      → (seat.own_slot < length (values_of kind row.line)) × (get_or (values_of kind row.line) seat.own_slot no_size ≡ of_kind kind seat.waits)
+      → (seat.own_slot < length (values_of kind row.line)) × (get_or (values_of kind row.line) seat.own_slot no_size ≡ waits_in kind rows.users.entries seat)
   own_value kind user row found n seat there is =
       let line = own_line user row found in
       let inside : seat.own_slot < length row.line.tickets = slice_get_within row.line.tickets seat.own_slot n (in_line-at (User user) row.line.tickets rows.seats.entries n seat.own_slot seat line.1 there (own_slot-in user seat is)) in
       let values : own_values kind seat.user rows.users.entries ≡ values_of kind row.line = ap (λ k. own_values kind k rows.users.entries) is ∙ ap (λ o. option_map_or (λ (r : UserRow). values_of kind r.line) o []) found in
-      (within kind inside line.0, ap (λ vs. get_or vs seat.own_slot no_size) (sym values) ∙ seated.waits n seat there kind)
+      (within kind inside line.0, ap (λ vs. get_or vs seat.own_slot no_size) (sym values))
     where
       within : (kind : Kind) → seat.own_slot < length row.line.tickets → IsLine row.line → seat.own_slot < length (values_of kind row.line)
       within Master i l = omega (arith, i, l.masters)
@@ -101,7 +100,7 @@ module _ (rows : Rows) (seated : IsSeated rows) where
   module _ {F : Type 0} (user : ℕ) (kind : Kind) (passes : Resource → Type 0) (gives : ℕ → Option F) (limit : ℕ) where
     module _ (row : UserRow) (found : lookup (nat_eq user) rows.users.entries ≡ Some row) where
       -- no value passes any more
-      pub own_none : (from : ℕ) → NonePasses passes (values_of kind row.line) from → HasPassed rows user kind passes gives limit from → NoneBefore (IsOwn user kind passes) gives rows.seats.entries limit
+      pub own_none : (from : ℕ) → NonePasses passes (values_of kind row.line) from → HasPassed rows user kind passes gives limit from → NoneBefore (IsOwn rows.users.entries user kind passes) gives rows.seats.entries limit
       own_none from none passed n seat there own given = ⊎_elim (λ low. low) (λ on. absurd (
           let value = own_value kind user row found n seat there own.own in
           none seat.own_slot no_size on value.0 (subst passes (sym value.1) own.fits))) (passed n seat there own given)
@@ -123,7 +122,7 @@ module _ (rows : Rows) (seated : IsSeated rows) where
           omega (arith, on, other))) (beyond from slot first passed n seat there own given)
 
       -- a seat of the user stands there, and none is before it
-      pub own_behind : (from slot : ℕ) → IsFirst passes (values_of kind row.line) from slot → HasPassed rows user kind passes gives limit from → (m : ℕ) (at : SeatRow) → IsSeatAt (User user) slot rows.seats.entries m at → NoneBefore (IsOwn user kind passes) gives rows.seats.entries (min limit at.slot)
+      pub own_behind : (from slot : ℕ) → IsFirst passes (values_of kind row.line) from slot → HasPassed rows user kind passes gives limit from → (m : ℕ) (at : SeatRow) → IsSeatAt (User user) slot rows.seats.entries m at → NoneBefore (IsOwn rows.users.entries user kind passes) gives rows.seats.entries (min limit at.slot)
       own_behind from slot first passed m at is n seat there own given = ⊎_elim (λ low. omega (arith, low)) (λ on. (
           let stands = own_slot-of user slot at is.at in
           let le : at.slot ≤ seat.slot = own_order user m n at seat is.found there stands.0 own.own (omega (arith, on, stands.1)) in
@@ -131,7 +130,7 @@ module _ (rows : Rows) (seated : IsSeated rows) where
 
       -- and its application is given something
       pub own_found : (from slot : ℕ) → IsFirst passes (values_of kind row.line) from slot → HasPassed rows user kind passes gives limit from → (m : ℕ) (at : SeatRow) → IsSeatAt (User user) slot rows.seats.entries m at → at.slot < limit → (given : F) → gives at.app ≡ Some given
-          → IsFirstGiven (IsOwn user kind passes) gives rows.seats.entries limit (record { ticket = m; slot = at.slot; given = given })
+          → IsFirstGiven (IsOwn rows.users.entries user kind passes) gives rows.seats.entries limit (record { ticket = m; slot = at.slot; given = given })
       own_found from slot first passed m at is before given gets =
           let stands = own_slot-of user slot at is.at in
           let value = own_value kind user row found m at is.found stands.0 in
@@ -146,7 +145,7 @@ module _ (rows : Rows) (seated : IsSeated rows) where
           }
 
       -- the line has no more seats
-      pub own_past : (from slot : ℕ) → IsFirst passes (values_of kind row.line) from slot → HasPassed rows user kind passes gives limit from → length row.line.tickets ≤ slot → NoneBefore (IsOwn user kind passes) gives rows.seats.entries limit
+      pub own_past : (from slot : ℕ) → IsFirst passes (values_of kind row.line) from slot → HasPassed rows user kind passes gives limit from → length row.line.tickets ≤ slot → NoneBefore (IsOwn rows.users.entries user kind passes) gives rows.seats.entries limit
       own_past from slot first passed past n seat there own given = ⊎_elim (λ low. low) (λ on. absurd (
           let inside : seat.own_slot < length row.line.tickets = slice_get_within row.line.tickets seat.own_slot n (in_line-at (User user) row.line.tickets rows.seats.entries n seat.own_slot seat (own_line user row found).1 there (own_slot-in user seat own.own)) in
           omega (arith, on, past, inside))) (beyond from slot first passed n seat there own given)

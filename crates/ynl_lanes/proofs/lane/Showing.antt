@@ -1,19 +1,23 @@
 -- What a lane shows of its rows.
-use Rattle.std.proofs.Common.{◌≡◌, ◌≢◌, ℕ, ◌+◌, Bool, true, false, cond, not, List, [], ◌∷◌, ◌++◌, map, Option, Some, None, option_map, nat_eq, refl, sym, ap, ◌∙◌, arith, true≢false}
+use Rattle.std.proofs.Common.{◌≡◌, ◌≢◌, ℕ, ◌+◌, Bool, true, false, cond, not, List, [], ◌∷◌, ◌++◌, map, get_or, Option, Some, None, option_map, nat_eq, refl, sym, ap, ◌∙◌, arith, true≢false}
 use Rattle.std.specs.List.{AllByRecursion}
 use Rattle.std.specs.Map.{lookup}
 use Rattle.std.specs.Option.{option_map_or}
 use Rattle.std.proofs.lemmas.Bool.Decides.{nat_tests}
 use Rattle.std.proofs.lemmas.Option.{same_Some, none-some}
 use Rattle.ynl_resource.specs.Amounts.{nothing}
-use Rattle.ynl_slots.specs.Slots.{IsOnly, IsUnused, HasDistinctNumbers, with_row, without}
+use Rattle.ynl_slots.specs.Slots.{IsUnused, HasDistinctNumbers, without}
+use Rattle.ynl_lanes.specs.lows.Lows.{no_size}
+use Rattle.ynl_lanes.specs.declared.lane.kinds.Kind.{Kind}
+use Rattle.ynl_lanes.specs.declared.lane.kinds.Kind.TheVariants.{Master, Ask}
 use Rattle.ynl_lanes.specs.declared.lane.rows.SeatRow.{SeatRow}
 use Rattle.ynl_lanes.specs.declared.lane.rows.UserRow.{UserRow}
-use Rattle.ynl_lanes.specs.lane.Changes.{Shown, shown, ShowSame}
-use Rattle.ynl_lanes.specs.lane.Fields.{user_by, count_of, seat_of}
+use Rattle.ynl_lanes.specs.lane.Changes.{Shown, shown}
+use Rattle.ynl_lanes.specs.lane.Fields.{user_by, both_in, count_of, seat_of}
 use Rattle.ynl_lanes.specs.lane.Levels.{ArePairs}
+use Rattle.ynl_lanes.specs.lane.Lines.{values_of}
 use Rattle.ynl_lanes.specs.lane.Rooms.{IsSameSeat}
-use Rattle.ynl_lanes.specs.lane.Rows.{of_user, used_by}
+use Rattle.ynl_lanes.specs.lane.Rows.{of_user, used_by, waits_in, WaitSame}
 use Rattle.ynl_lanes.proofs.lane.Keys.{without_unused}
 
 -- the row of which something is known
@@ -41,12 +45,20 @@ of_shown f none user users = go (lookup (nat_eq user) users)
 pub shows_as : {X : Type 0} (f : Shown → X) (none : X) (user : ℕ) (old new : List (ℕ × UserRow)) → option_map shown (lookup (nat_eq user) new) ≡ option_map shown (lookup (nat_eq user) old) → of_user (λ row. f (shown row)) none user new ≡ of_user (λ row. f (shown row)) none user old
 shows_as f none user old new same = of_shown f none user new ∙ ap (λ o. option_map_or f o none) same ∙ sym (of_shown f none user old)
 
--- a seat shows the same where its user does
-pub seat_as : (e : ℕ × SeatRow) (old new : List (ℕ × UserRow)) → option_map shown (lookup (nat_eq e.1.user) new) ≡ option_map shown (lookup (nat_eq e.1.user) old) → seat_of new e ≡ seat_of old e
-seat_as e old new same =
+-- the same waits where the rows of users are the same
+pub waits_as : (old new : List (ℕ × UserRow)) (row : SeatRow) → lookup (nat_eq row.user) new ≡ lookup (nat_eq row.user) old → WaitSame old new row
+waits_as old new row same kind = ap (λ o. get_or (option_map_or (λ (r : UserRow). values_of kind r.line) o []) row.own_slot no_size) same
+
+pub both_as : (old new : List (ℕ × UserRow)) (e f : SeatRow) → ((kind : Kind) → waits_in kind new f ≡ waits_in kind old e) → both_in new f ≡ both_in old e
+both_as old new e f same = (let master = same Master in let ask = same Ask in λ i. record { master = master i; ask = ask i })
+
+-- a seat shows the same where its user does, and the same waits there
+pub seat_as : (e : ℕ × SeatRow) (old new : List (ℕ × UserRow)) → option_map shown (lookup (nat_eq e.1.user) new) ≡ option_map shown (lookup (nat_eq e.1.user) old) → WaitSame old new e.1 → seat_of new e ≡ seat_of old e
+seat_as e old new same stays =
     let user_is : user_by e.1.user new ≡ user_by e.1.user old = shows_as (λ (s : Shown). s.user) 0 e.1.user old new same in
     let used : used_by e.1.user new ≡ used_by e.1.user old = shows_as (λ (s : Shown). s.used) nothing e.1.user old new same in
-    λ i. (e.0, record { app = e.1.app; user = user_is i; used = used i; waits = e.1.waits })
+    let waits = both_as old new e.1 e.1 stays in
+    λ i. (e.0, record { app = e.1.app; user = user_is i; used = used i; waits = waits i })
 
 pub map_as : {X Y : Type 0} (f g : X → Y) (xs : List X) → AllByRecursion (λ x. f x ≡ g x) xs → map f xs ≡ map g xs
 map_as f g [] h = refl
@@ -56,32 +68,18 @@ pub map_any : {X Y : Type 0} (f g : X → Y) → ((x : X) → f x ≡ g x) → (
 map_any f g h [] = refl
 map_any f g h (x ∷ xs) = (let first = h x in let rest = map_any f g h xs in λ i. first i ∷ rest i)
 
--- the seats show the same where all users do
-pub seats_as : (old new : List (ℕ × UserRow)) → ShowSame old new → (seats : List (ℕ × SeatRow)) → map (seat_of new) seats ≡ map (seat_of old) seats
-seats_as old new same seats = map_any (seat_of new) (seat_of old) (λ e. seat_as e old new (same e.1.user)) seats
-
 abbrev one_of : ℕ → ℕ × SeatRow → ℕ
 one_of user e = cond (nat_eq user e.1.user) 1 0
-
-pub count_written : (user ticket : ℕ) (row next : SeatRow) (seats : List (ℕ × SeatRow)) → IsOnly ticket row seats → next.user ≡ row.user → count_of user (with_row ticket next seats) ≡ count_of user seats
-count_written user ticket row next [] only same = refl
-count_written user ticket row next (e ∷ seats) only same = (let first = go (nat_eq ticket e.0) refl in let rest = count_written user ticket row next seats only.1 same in λ i. first i + rest i)
-  where
-    go : (b : Bool) → nat_eq ticket e.0 ≡ b → one_of user (cond b (e.0, next) e) ≡ one_of user e
-    go true q =
-        let is : e.1 ≡ row = only.0 (sym (let here : ticket ≡ e.0 = grind (arith, nat_tests) in here)) in
-        ap (λ u. let n : ℕ = cond (nat_eq user u) 1 0 in n) (same ∙ ap (λ (r : SeatRow). r.user) (sym is))
-    go false q = refl
 
 pub count_pushed : (user ticket : ℕ) (row : SeatRow) (seats : List (ℕ × SeatRow)) → count_of user (seats ++ (ticket, row) ∷ []) ≡ count_of user seats + cond (nat_eq user row.user) 1 0
 count_pushed user ticket row [] = omega arith
 count_pushed user ticket row (e ∷ seats) = (let rest = count_pushed user ticket row seats in omega (arith, rest))
 
-pub count_pairs : (user : ℕ) (es fs : List (ℕ × SeatRow)) → ArePairs IsSameSeat es fs → count_of user fs ≡ count_of user es
-count_pairs user [] [] k = refl
-count_pairs user (e ∷ es) (f ∷ fs) k = (let same = k.0.user in let rest = count_pairs user es fs k.1 in λ i. (let n : ℕ = cond (nat_eq user (same i)) 1 0 in n) + rest i)
-count_pairs user [] (f ∷ fs) k = absurd k
-count_pairs user (e ∷ es) [] k = absurd k
+pub count_pairs : (old new : List (ℕ × UserRow)) (user : ℕ) (es fs : List (ℕ × SeatRow)) → ArePairs (IsSameSeat old new) es fs → count_of user fs ≡ count_of user es
+count_pairs old new user [] [] k = refl
+count_pairs old new user (e ∷ es) (f ∷ fs) k = (let same = k.0.user in let rest = count_pairs old new user es fs k.1 in λ i. (let n : ℕ = cond (nat_eq user (same i)) 1 0 in n) + rest i)
+count_pairs old new user [] (f ∷ fs) k = absurd k
+count_pairs old new user (e ∷ es) [] k = absurd k
 
 -- where none is counted, no seat is the user's
 pub count_none : (user : ℕ) (seats : List (ℕ × SeatRow)) → count_of user seats ≡ 0 → AllByRecursion (λ e. e.1.user ≢ user) seats

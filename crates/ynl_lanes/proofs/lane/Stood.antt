@@ -17,11 +17,10 @@ use Rattle.ynl_lanes.specs.lane.Lined.{Lined}
 use Rattle.ynl_lanes.specs.declared.lane.rows.SeatRow.{SeatRow}
 use Rattle.ynl_lanes.specs.declared.lane.rows.UserRow.{UserRow}
 use Rattle.ynl_lanes.specs.declared.lane.rows.Rows.{Rows}
-use Rattle.ynl_lanes.specs.lane.Kinds.{of_kind}
 use Rattle.ynl_lanes.specs.lane.Levels.{AreIn}
 use Rattle.ynl_lanes.specs.lane.Lines.{values_of, IsLine}
 use Rattle.ynl_lanes.specs.lane.Found.{EachSeat}
-use Rattle.ynl_lanes.specs.lane.Rows.{tickets_in, own_tickets, used_by, HasWaits, EachUser, IsUserRow, IsSeated, IsStood, AreStood, AreStoodBut}
+use Rattle.ynl_lanes.specs.lane.Rows.{tickets_in, own_tickets, used_by, waits_in, EachUser, IsUserRow, IsSeated, IsStood, AreStood, AreStoodBut}
 use Rattle.ynl_lanes.specs.lane.Stands.{IsFirstWaiting, NoneWaits, ChangesStand}
 use Rattle.ynl_lanes.specs.lane.Waiting.{IsWaiting}
 use Rattle.ynl_lanes.proofs.lane.Found.{one_at}
@@ -48,7 +47,6 @@ pub seated_line : (rows new : Rows) → IsSeated rows → new.seats ≡ rows.sea
 seated_line rows new h seats users tickets line = record {
   distinct = subst HasDistinctNumbers (ap (λ s. s.entries) (sym seats)) h.distinct;
   lines = lines;
-  waits = subst (λ es. EachSeat (HasWaits new.users.entries) es) (ap (λ s. s.entries) (sym seats)) (subst (λ us. EachSeat (HasWaits us) rows.seats.entries) (ap (λ s. s.entries) (sym users)) h.waits);
   line = line;
   users = subst (EachUser IsUserRow) (ap (λ s. s.entries) (sym users)) h.users;
 }
@@ -60,15 +58,15 @@ seated_line rows new h seats users tickets line = record {
 -- where the values of a kind stay, so do the stands
 pub stood_same : (kind : Kind) (rows new : Rows) → new.seats ≡ rows.seats → new.users ≡ rows.users → values_of kind new.line ≡ values_of kind rows.line → AreStood kind rows → AreStood kind new
 stood_same kind rows new seats users values h =
-    subst (λ es. EachSeat (λ _ row. IsWaiting (of_kind kind row.waits) → IsStood kind es new.users.entries (values_of kind new.line) row) es) (ap (λ s. s.entries) (sym seats))
-    (subst (λ us. EachSeat (λ _ row. IsWaiting (of_kind kind row.waits) → IsStood kind rows.seats.entries us (values_of kind new.line) row) rows.seats.entries) (ap (λ s. s.entries) (sym users))
-    (subst (λ vs. EachSeat (λ _ row. IsWaiting (of_kind kind row.waits) → IsStood kind rows.seats.entries rows.users.entries vs row) rows.seats.entries) (sym values) h))
+    subst (λ es. EachSeat (λ _ row. IsWaiting (waits_in kind new.users.entries row) → IsStood kind es new.users.entries (values_of kind new.line) row) es) (ap (λ s. s.entries) (sym seats))
+    (subst (λ us. EachSeat (λ _ row. IsWaiting (waits_in kind us row) → IsStood kind rows.seats.entries us (values_of kind new.line) row) rows.seats.entries) (ap (λ s. s.entries) (sym users))
+    (subst (λ vs. EachSeat (λ _ row. IsWaiting (waits_in kind rows.users.entries row) → IsStood kind rows.seats.entries rows.users.entries vs row) rows.seats.entries) (sym values) h))
 
 pub but_same : (user : ℕ) (kind : Kind) (rows new : Rows) → new.seats ≡ rows.seats → new.users ≡ rows.users → values_of kind new.line ≡ values_of kind rows.line → AreStoodBut user kind rows → AreStoodBut user kind new
 but_same user kind rows new seats users values h =
-    subst (λ es. EachSeat (λ _ row. row.user ≢ user → IsWaiting (of_kind kind row.waits) → IsStood kind es new.users.entries (values_of kind new.line) row) es) (ap (λ s. s.entries) (sym seats))
-    (subst (λ us. EachSeat (λ _ row. row.user ≢ user → IsWaiting (of_kind kind row.waits) → IsStood kind rows.seats.entries us (values_of kind new.line) row) rows.seats.entries) (ap (λ s. s.entries) (sym users))
-    (subst (λ vs. EachSeat (λ _ row. row.user ≢ user → IsWaiting (of_kind kind row.waits) → IsStood kind rows.seats.entries rows.users.entries vs row) rows.seats.entries) (sym values) h))
+    subst (λ es. EachSeat (λ _ row. row.user ≢ user → IsWaiting (waits_in kind new.users.entries row) → IsStood kind es new.users.entries (values_of kind new.line) row) es) (ap (λ s. s.entries) (sym seats))
+    (subst (λ us. EachSeat (λ _ row. row.user ≢ user → IsWaiting (waits_in kind us row) → IsStood kind rows.seats.entries us (values_of kind new.line) row) rows.seats.entries) (ap (λ s. s.entries) (sym users))
+    (subst (λ vs. EachSeat (λ _ row. row.user ≢ user → IsWaiting (waits_in kind rows.users.entries row) → IsStood kind rows.seats.entries rows.users.entries vs row) rows.seats.entries) (sym values) h))
 
 module _ (user : ℕ) (kind : Kind) (seats : List (ℕ × SeatRow)) where
   -- a value at a seat of the user
@@ -97,7 +95,7 @@ module _ (user : ℕ) (kind : Kind) (rows new : Rows) (seats : new.seats ≡ row
     user = h.user;
     waits = h.waits;
     front = h.front;
-    low = subst (λ v. IsBelowRequest v (used_by e.user rows.users.entries) (of_kind kind e.waits)) (sym (line.others h.ticket h.stand h.found (λ same. apart (sym h.user ∙ same)))) h.low;
+    low = subst (λ v. IsBelowRequest v (used_by e.user rows.users.entries) (waits_in kind rows.users.entries e)) (sym (line.others h.ticket h.stand h.found (λ same. apart (sym h.user ∙ same)))) h.low;
   }
 
   back : (P : List (ℕ × SeatRow) → List (ℕ × UserRow) → Type 0) → P rows.seats.entries rows.users.entries → P new.seats.entries new.users.entries
@@ -105,30 +103,30 @@ module _ (user : ℕ) (kind : Kind) (rows new : Rows) (seats : new.seats ≡ row
 
   pub but_changed : AreStoodBut user kind rows → AreStoodBut user kind new
   but_changed h =
-      back (λ es us. EachSeat (λ _ row. row.user ≢ user → IsWaiting (of_kind kind row.waits) → IsStood kind es us (values_of kind new.line) row) es)
+      back (λ es us. EachSeat (λ _ row. row.user ≢ user → IsWaiting (waits_in kind us row) → IsStood kind es us (values_of kind new.line) row) es)
       (λ n e there apart waits. others_stand e apart (h n e there apart waits))
 
   -- where nothing of the user's waits, all stand
-  pub stood_none : AreStoodBut user kind rows → NoneWaits user kind rows.seats.entries → AreStood kind new
+  pub stood_none : AreStoodBut user kind rows → NoneWaits user kind rows.seats.entries rows.users.entries → AreStood kind new
   stood_none h none =
-      back (λ es us. EachSeat (λ _ row. IsWaiting (of_kind kind row.waits) → IsStood kind es us (values_of kind new.line) row) es)
+      back (λ es us. EachSeat (λ _ row. IsWaiting (waits_in kind us row) → IsStood kind es us (values_of kind new.line) row) es)
       (λ n e there waits. ⊎_elim (λ same. absurd (none n e there same waits)) (λ apart. others_stand e apart (h n e there apart waits)) (cases_eq e.user user))
 
 -- and where the user's least stands at the user's first seat with something that waits
 pub stood_put : (user : ℕ) (kind : Kind) (rows new : Rows) → IsSeated rows → (seats : new.seats ≡ rows.seats) (users : new.users ≡ rows.users) → ChangesStand user kind rows.seats.entries rows.line new.line → AreStoodBut user kind rows
-    → (ticket : ℕ) (first : IsFirstWaiting user kind rows.seats.entries ticket) (row : UserRow) → lookup (nat_eq user) rows.users.entries ≡ Some row → (least : UserLow) → All (IsBelow least.low) (values_of kind row.line) → least.used ≡ row.used → values_of kind new.line ≡ set (values_of kind rows.line) first.row.slot least → AreStood kind new
+    → (ticket : ℕ) (first : IsFirstWaiting user kind rows.seats.entries rows.users.entries ticket) (row : UserRow) → lookup (nat_eq user) rows.users.entries ≡ Some row → (least : UserLow) → All (IsBelow least.low) (values_of kind row.line) → least.used ≡ row.used → values_of kind new.line ≡ set (values_of kind rows.line) first.row.slot least → AreStood kind new
 stood_put user kind rows new seated seats users line but ticket first row found least below used values =
-    subst (λ es. EachSeat (λ _ e. IsWaiting (of_kind kind e.waits) → IsStood kind es new.users.entries (values_of kind new.line) e) es) (ap (λ s. s.entries) (sym seats))
-    (subst (λ us. EachSeat (λ _ e. IsWaiting (of_kind kind e.waits) → IsStood kind rows.seats.entries us (values_of kind new.line) e) rows.seats.entries) (ap (λ s. s.entries) (sym users))
+    subst (λ es. EachSeat (λ _ e. IsWaiting (waits_in kind new.users.entries e) → IsStood kind es new.users.entries (values_of kind new.line) e) es) (ap (λ s. s.entries) (sym seats))
+    (subst (λ us. EachSeat (λ _ e. IsWaiting (waits_in kind us e) → IsStood kind rows.seats.entries us (values_of kind new.line) e) rows.seats.entries) (ap (λ s. s.entries) (sym users))
     (λ n e there waits. ⊎_elim (λ same. own n e there waits same) (λ apart. others_stand user kind rows new seats users line e apart (but n e there apart waits)) (cases_eq e.user user)))
   where
     stands : get_or (values_of kind new.line) first.row.slot no_user ≡ least
     stands = ap (λ vs. get_or vs first.row.slot no_user) values ∙ get_or-set_same (values_of kind rows.line) first.row.slot least no_user (slot_inside rows seated kind ticket first.row first.found)
 
-    own : (n : ℕ) (e : SeatRow) → lookup (nat_eq n) rows.seats.entries ≡ Some e → IsWaiting (of_kind kind e.waits) → e.user ≡ user → IsStood kind rows.seats.entries rows.users.entries (values_of kind new.line) e
+    own : (n : ℕ) (e : SeatRow) → lookup (nat_eq n) rows.seats.entries ≡ Some e → IsWaiting (waits_in kind rows.users.entries e) → e.user ≡ user → IsStood kind rows.seats.entries rows.users.entries (values_of kind new.line) e
     own n e there waits same =
         let value = own_value rows seated kind user row found n e there same in
-        let low : IsBelow least.low (of_kind kind e.waits) = subst (IsBelow least.low) value.1 (below e.own_slot no_size value.0) in
+        let low : IsBelow least.low (waits_in kind rows.users.entries e) = subst (IsBelow least.low) value.1 (below e.own_slot no_size value.0) in
         let uses : used_by e.user rows.users.entries ≡ row.used = ap (λ k. used_by k rows.users.entries) same ∙ ap (λ o. option_map_or (λ (r : UserRow). r.used) o nothing) found in
         record {
           ticket = ticket;
@@ -137,7 +135,7 @@ stood_put user kind rows new seated seats users line but ticket first row found 
           user = first.own ∙ sym same;
           waits = first.waits;
           front = first.first n e there same waits;
-          low = subst (λ v. IsBelowRequest v (used_by e.user rows.users.entries) (of_kind kind e.waits)) (sym stands) (record {
+          low = subst (λ v. IsBelowRequest v (used_by e.user rows.users.entries) (waits_in kind rows.users.entries e)) (sym stands) (record {
             low = low;
             used = subst (IsBelow least.used) (used ∙ sym uses) (below-refl least.used);
           });

@@ -8,17 +8,21 @@ use Rattle.std.proofs.lemmas.Bool.Decides.{nat_tests}
 use Rattle.std.proofs.lemmas.Option.{same_Some, none-some}
 use Rattle.ynl_resource.specs.declared.amounts.Resource.{Resource}
 use Rattle.ynl_resource.specs.Amounts.{nothing}
-use Rattle.ynl_slots.specs.Slots.{IsOnly, with_row, without}
+use Rattle.ynl_slots.specs.Slots.{HasDistinctNumbers, without}
 use Rattle.ynl_lanes.specs.declared.lane.kinds.Both.{Both}
+use Rattle.ynl_lanes.specs.declared.lane.kinds.Kind.{Kind}
+use Rattle.ynl_lanes.specs.declared.lane.kinds.Kind.TheVariants.{Master, Ask}
 use Rattle.ynl_lanes.specs.declared.lane.rows.SeatRow.{SeatRow}
 use Rattle.ynl_lanes.specs.declared.lane.rows.UserRow.{UserRow}
-use Rattle.ynl_lanes.specs.lane.Changes.{Shown, shown, ShowSame, ShowsOther}
-use Rattle.ynl_lanes.specs.lane.Fields.{user_by, seat_of, count_of, IsUserOf, AreUsersOf}
+use Rattle.ynl_lanes.specs.lane.Changes.{Shown, shown, ShowSame, ShowsOther, SetsWaits}
+use Rattle.ynl_lanes.specs.lane.Fields.{user_by, both_in, seat_of, count_of, IsUserOf, AreUsersOf}
+use Rattle.ynl_lanes.specs.lane.Kinds.{of_kind}
 use Rattle.ynl_lanes.specs.lane.Levels.{ArePairs}
 use Rattle.ynl_lanes.specs.lane.Rooms.{IsSameSeat}
-use Rattle.ynl_lanes.specs.lane.Rows.{used_by, EachUser}
+use Rattle.ynl_lanes.specs.lane.Rows.{used_by, waits_in, WaitSame, EachUser}
 use Rattle.ynl_lanes.specs.lane.Seats.{Seat, with_waits, with_used, used_at}
-use Rattle.ynl_lanes.proofs.lane.Showing.{shown_row, seat_as}
+use Rattle.ynl_lanes.proofs.lane.Found.{all_from_each}
+use Rattle.ynl_lanes.proofs.lane.Showing.{shown_row, shows_as, both_as, seat_as}
 
 -- a seat that is looked up
 pub seat_found : (users : List (ℕ × UserRow)) (ticket : ℕ) (seats : List (ℕ × SeatRow)) → lookup (nat_eq ticket) (map (seat_of users) seats) ≡ option_map (λ row. (seat_of users (ticket, row)).1) (lookup (nat_eq ticket) seats)
@@ -38,23 +42,44 @@ seat_live users ticket seats h = go (lookup (nat_eq ticket) seats) (sym (seat_fo
     go None q k = ap is_some q ∙ k
     go (Some row) q k = refl
 
-pub view_entered : (users : List (ℕ × UserRow)) (ticket : ℕ) (waits : Both Resource) (row : SeatRow) (seats : List (ℕ × SeatRow)) → IsOnly ticket row seats → map (seat_of users) (with_row ticket (record row { waits = waits }) seats) ≡ with_waits ticket waits (map (seat_of users) seats)
-view_entered users ticket waits row [] only = refl
-view_entered users ticket waits row (e ∷ seats) only = (let first = go (nat_eq ticket e.0) refl in let rest = view_entered users ticket waits row seats only.1 in λ i. first i ∷ rest i)
-  where
-    go : (b : Bool) → nat_eq ticket e.0 ≡ b → seat_of users (cond b (e.0, record row { waits = waits }) e) ≡ cond b (e.0, record (seat_of users e).1 { waits = waits }) (seat_of users e)
-    go true q =
-        let is : e.1 ≡ row = only.0 (sym (let here : ticket ≡ e.0 = grind (arith, nat_tests) in here)) in
-        ap (λ (r : SeatRow). seat_of users (e.0, record r { waits = waits })) (sym is)
-    go false q = refl
+-- what waits of a kind at a seat
+pub of_both : (kind : Kind) (users : List (ℕ × UserRow)) (row : SeatRow) → of_kind kind (both_in users row) ≡ waits_in kind users row
+of_both Master users row = refl
+of_both Ask users row = refl
 
-pub view_pairs : (users : List (ℕ × UserRow)) (es fs : List (ℕ × SeatRow)) → ArePairs IsSameSeat es fs → map (seat_of users) fs ≡ map (seat_of users) es
-view_pairs users [] [] k = refl
-view_pairs users (e ∷ es) (f ∷ fs) k =
-    let rest = view_pairs users es fs k.1 in
-    λ i. (k.0.ticket i, record { app = k.0.app i; user = user_by (k.0.user i) users; used = used_by (k.0.user i) users; waits = k.0.waits i }) ∷ rest i
-view_pairs users [] (f ∷ fs) k = absurd k
-view_pairs users (e ∷ es) [] k = absurd k
+-- other things wait at a seat
+pub view_entered : (old new : List (ℕ × UserRow)) (ticket : ℕ) (waits : Both Resource) (seats : List (ℕ × SeatRow)) → HasDistinctNumbers seats → SetsWaits ticket waits seats old new → ShowSame old new → map (seat_of new) seats ≡ with_waits ticket waits (map (seat_of old) seats)
+view_entered old new ticket waits seats distinct sets same =
+    each seats (all_from_each (λ e. seat_of new e ≡ cond (nat_eq ticket e.0) (e.0, record (seat_of old e).1 { waits = waits }) (seat_of old e)) seats distinct (λ n e there. one n e there (nat_eq ticket n) refl))
+  where
+    each : (es : List (ℕ × SeatRow)) → AllByRecursion (λ e. seat_of new e ≡ cond (nat_eq ticket e.0) (e.0, record (seat_of old e).1 { waits = waits }) (seat_of old e)) es → map (seat_of new) es ≡ with_waits ticket waits (map (seat_of old) es)
+    each [] h = refl
+    each (e ∷ es) h = (let first = h.0 in let rest = each es h.1 in λ i. first i ∷ rest i)
+
+    one : (n : ℕ) (e : SeatRow) → lookup (nat_eq n) seats ≡ Some e → (b : Bool) → nat_eq ticket n ≡ b → seat_of new (n, e) ≡ cond b (n, record (seat_of old (n, e)).1 { waits = waits }) (seat_of old (n, e))
+    one n e there true q =
+        let here : ticket ≡ n = grind (arith, nat_tests) in
+        let is : sets.row ≡ e = same_Some _ _ (sym sets.found ∙ ap (λ k. lookup (nat_eq k) seats) here ∙ there) in
+        let user_is : user_by e.user new ≡ user_by e.user old = shows_as (λ (s : Shown). s.user) 0 e.user old new (same e.user) in
+        let used : used_by e.user new ≡ used_by e.user old = shows_as (λ (s : Shown). s.used) nothing e.user old new (same e.user) in
+        let master : waits_in Master new e ≡ waits.master = ap (waits_in Master new) (sym is) ∙ sets.own Master in
+        let ask : waits_in Ask new e ≡ waits.ask = ap (waits_in Ask new) (sym is) ∙ sets.own Ask in
+        λ i. (n, record { app = e.app; user = user_is i; used = used i; waits = record { master = master i; ask = ask i } })
+    one n e there false q =
+        let apart : n ≢ ticket = grind (arith, nat_tests) in
+        seat_as (n, e) old new (same e.user) (sets.others n e there apart)
+
+-- the same seats in other slots
+pub view_pairs : (old new : List (ℕ × UserRow)) → ShowSame old new → (es fs : List (ℕ × SeatRow)) → ArePairs (IsSameSeat old new) es fs → map (seat_of new) fs ≡ map (seat_of old) es
+view_pairs old new same [] [] k = refl
+view_pairs old new same (e ∷ es) (f ∷ fs) k =
+    let rest = view_pairs old new same es fs k.1 in
+    let user_is : user_by f.1.user new ≡ user_by e.1.user old = shows_as (λ (s : Shown). s.user) 0 f.1.user old new (same f.1.user) ∙ ap (λ u. user_by u old) k.0.user in
+    let uses : used_by f.1.user new ≡ used_by e.1.user old = shows_as (λ (s : Shown). s.used) nothing f.1.user old new (same f.1.user) ∙ ap (λ u. used_by u old) k.0.user in
+    let waits = both_as old new e.1 f.1 k.0.waits in
+    λ i. (k.0.ticket i, record { app = k.0.app i; user = user_is i; used = uses i; waits = waits i }) ∷ rest i
+view_pairs old new same [] (f ∷ fs) k = absurd k
+view_pairs old new same (e ∷ es) [] k = absurd k
 
 pub view_without : (users : List (ℕ × UserRow)) (ticket : ℕ) (seats : List (ℕ × SeatRow)) → map (seat_of users) (without ticket seats) ≡ without ticket (map (seat_of users) seats)
 view_without users ticket [] = refl
@@ -79,9 +104,9 @@ module _ (numbers : ℕ → Option ℕ) (users : List (ℕ × UserRow)) (keyed :
   user_of_row : (e : ℕ × SeatRow) → e.1.user ≡ user → nat_eq row.user (user_by e.1.user users) ≡ true
   user_of_row e same = eq-eqb row.user (user_by e.1.user users) (sym (ap (λ k. user_by k users) same ∙ ap (λ o. option_map_or (λ (r : UserRow). r.user) o 0) found))
 
-  pub view_used : (used : Resource) (new : List (ℕ × UserRow)) → ShowsOther user (λ s. record s { used = used }) users new → (seats : List (ℕ × SeatRow)) → HaveRows users seats → map (seat_of new) seats ≡ with_used row.user used (map (seat_of users) seats)
-  view_used used new shows [] have = refl
-  view_used used new shows (e ∷ seats) have = (let first = go (nat_eq row.user (user_by e.1.user users)) refl in let rest = view_used used new shows seats have.1 in λ i. first i ∷ rest i)
+  pub view_used : (used : Resource) (new : List (ℕ × UserRow)) → ShowsOther user (λ s. record s { used = used }) users new → (seats : List (ℕ × SeatRow)) → HaveRows users seats → AllByRecursion (λ e. WaitSame users new e.1) seats → map (seat_of new) seats ≡ with_used row.user used (map (seat_of users) seats)
+  view_used used new shows [] have stay = refl
+  view_used used new shows (e ∷ seats) have stay = (let first = go (nat_eq row.user (user_by e.1.user users)) refl in let rest = view_used used new shows seats have.1 stay.1 in λ i. first i ∷ rest i)
     where
       go : (b : Bool) → nat_eq row.user (user_by e.1.user users) ≡ b → seat_of new e ≡ cond b (e.0, record (seat_of users e).1 { used = used }) (seat_of users e)
       go true q =
@@ -90,10 +115,11 @@ module _ (numbers : ℕ → Option ℕ) (users : List (ℕ × UserRow)) (keyed :
           let next = shown_row user (record (shown row) { used = used }) new now in
           let user_is : user_by e.1.user new ≡ user_by e.1.user users = ap (λ k. user_by k new) same ∙ ap (λ o. option_map_or (λ (r : UserRow). r.user) o 0) next.1 ∙ ap (λ (s : Shown). s.user) next.2 ∙ sym (ap (λ k. user_by k users) same ∙ ap (λ o. option_map_or (λ (r : UserRow). r.user) o 0) found) in
           let uses : used_by e.1.user new ≡ used = ap (λ k. used_by k new) same ∙ ap (λ o. option_map_or (λ (r : UserRow). r.used) o nothing) next.1 ∙ ap (λ (s : Shown). s.used) next.2 in
-          λ i. (e.0, record { app = e.1.app; user = user_is i; used = uses i; waits = e.1.waits })
+          let waits = both_as users new e.1 e.1 stay.0 in
+          λ i. (e.0, record { app = e.1.app; user = user_is i; used = uses i; waits = waits i })
       go false q =
           let apart : e.1.user ≢ user = λ same. true≢false (sym (user_of_row e same) ∙ q) in
-          seat_as e users new (shows.others e.1.user apart)
+          seat_as e users new (shows.others e.1.user apart) stay.0
 
   -- what the user's first seat says that the user uses
   pub used_first : (seats : List (ℕ × SeatRow)) → HaveRows users seats → (count_of user seats ≡ 0 → row.used ≡ nothing) → used_at row.user (map (seat_of users) seats) ≡ row.used

@@ -1,20 +1,36 @@
 -- How rows change.
-use Rattle.std.specs.Prelude.{◌≡◌, ◌≢◌, ◌<◌, ◌^◌, ℕ, option_map, ◌-◌, ◌+◌, List, [], ◌∷◌, ◌++◌, length, Some, nat_eq, slice_set}
+use Rattle.std.specs.Prelude.{◌≡◌, ◌≢◌, ◌<◌, ◌^◌, ℕ, option_map, ◌-◌, ◌+◌, List, [], ◌∷◌, ◌++◌, length, Some, nat_eq, slice_index_or, slice_set}
 use Rattle.std.specs.Map.{lookup}
 use Rattle.ynl_resource.specs.declared.amounts.Resource.{Resource}
 use Rattle.ynl_slots.specs.Slots.{IsUnused, with_row}
 use Rattle.ynl_lanes.specs.lows.Lows.{no_size}
 use Rattle.ynl_lanes.specs.declared.lane.kinds.Both.{Both}
+use Rattle.ynl_lanes.specs.declared.lane.kinds.Kind.{Kind}
 use Rattle.ynl_lanes.specs.declared.lane.rows.SeatRow.{SeatRow}
 use Rattle.ynl_lanes.specs.declared.lane.rows.UserRow.{UserRow}
+use Rattle.ynl_lanes.specs.lane.Found.{EachSeat}
+use Rattle.ynl_lanes.specs.lane.Kinds.{of_kind}
 use Rattle.ynl_lanes.specs.lane.Lines.{HasRoom}
-use Rattle.ynl_lanes.specs.lane.Seats.{nothing_waits}
+use Rattle.ynl_lanes.specs.lane.Rows.{own_values, waits_in, WaitSame}
 
--- other things wait at a seat
-pub record SetsWaits (ticket : ℕ) (waits : Both Resource) (old new : List (ℕ × SeatRow)) : Type 0 where
+-- other things wait at a seat, and the same at the others
+pub record SetsWaits (ticket : ℕ) (waits : Both Resource) (seats : List (ℕ × SeatRow)) (old new : List (ℕ × UserRow)) : Type 0 where
   pub row : SeatRow
-  pub found : lookup (nat_eq ticket) old ≡ Some row
-  pub entries : new ≡ with_row ticket (record row { waits = waits }) old
+  pub found : lookup (nat_eq ticket) seats ≡ Some row
+  pub own : (kind : Kind) → waits_in kind new row ≡ of_kind kind waits
+  pub others : EachSeat (λ n e. n ≢ ticket → WaitSame old new e) seats
+
+-- the same waits at each seat
+abbrev pub KeepWaits : List (ℕ × UserRow) → List (ℕ × UserRow) → List (ℕ × SeatRow) → Type 0
+KeepWaits old new seats = EachSeat (λ _ row. WaitSame old new row) seats
+
+-- a user's line has values at a slot
+abbrev pub HasValuesAt : ℕ → ℕ → List (ℕ × UserRow) → Type 0
+HasValuesAt user slot users = (row : UserRow) → lookup (nat_eq user) users ≡ Some row → (slot < length row.line.masters) × (slot < length row.line.asks)
+
+-- just these
+abbrev pub AreValues : ℕ → ℕ → Both Resource → List (ℕ × UserRow) → Type 0
+AreValues user slot waits users = (kind : Kind) → slice_index_or (own_values kind user users) slot no_size ≡ of_kind kind waits
 
 -- the user's line has what waits at a slot
 pub record SetsValues (user slot : ℕ) (waits : Both Resource) (old new : List (ℕ × UserRow)) : Type 0 where
@@ -53,13 +69,13 @@ pub record PushesOwn (user ticket : ℕ) (old new : List (ℕ × UserRow)) : Typ
   pub asks : next.line.asks ≡ slice_set row.line.asks (length row.line.tickets) no_size
 
 -- a seat of a user comes last, at which nothing waits
-pub record PushesSeat (app user ticket : ℕ) (old new : List (ℕ × SeatRow)) : Type 0 where
+pub record PushesSeat (app user ticket : ℕ) (users : List (ℕ × UserRow)) (old new : List (ℕ × SeatRow)) : Type 0 where
   pub row : SeatRow
   pub entries : new ≡ old ++ (ticket, row) ∷ []
   pub unused : IsUnused ticket old
   pub app_is : row.app ≡ app
   pub user_is : row.user ≡ user
-  pub waits : row.waits ≡ nothing_waits
+  pub waits : (kind : Kind) → waits_in kind users row ≡ no_size
 
 -- a user has one seat less
 pub record IsPulled (user : ℕ) (old new : List (ℕ × UserRow)) : Type 0 where

@@ -1,25 +1,32 @@
 -- What the rows of a lane mean, and how they go together with its users' numbers.
 use Rattle.std.specs.Prelude.{◌≡◌, ◌≢◌, ℕ, ◌<◌, List, [], ◌∷◌, ◌++◌, map, Option, Some, None, Result, Ok, Err, option_map, IfSome, nat_eq, ◌+◌, if◌then◌else◌}
 use Rattle.std.specs.BTreeMap.{get}
+use Rattle.ynl_resource.specs.declared.amounts.Resource.{Resource}
 use Rattle.ynl_resource.specs.Amounts.{nothing}
 use Rattle.std.specs.Ordering.{nat_cmp}
 use Rattle.ynl_slots.specs.Slots.{IsLive, IsUnused}
+use Rattle.ynl_lanes.specs.declared.lane.kinds.Both.{Both}
+use Rattle.ynl_lanes.specs.declared.lane.kinds.Kind.TheVariants.{Master, Ask}
 use Rattle.ynl_lanes.specs.declared.lane.rows.SeatRow.{SeatRow}
 use Rattle.ynl_lanes.specs.declared.lane.rows.UserRow.{UserRow}
 use Rattle.ynl_lanes.specs.declared.lane.rows.Rows.{Rows}
 use Rattle.ynl_lanes.specs.declared.lane.lane.Lane.TheInside.{Inside}
 use Rattle.ynl_lanes.specs.lane.Changes.{IsOwnRoom, Shown, shown}
 use Rattle.ynl_lanes.specs.lane.Lines.{HasRoom}
-use Rattle.ynl_lanes.specs.lane.Rows.{of_user, used_by, EachUser, IsKept}
+use Rattle.ynl_lanes.specs.lane.Rows.{of_user, used_by, waits_in, EachUser, IsKept}
 use Rattle.ynl_lanes.specs.lane.Seats.{Seat, Seats}
 
 -- the user of the row under a number
 abbrev pub user_by : ℕ → List (ℕ × UserRow) → ℕ
 user_by = of_user (λ row. row.user) 0
 
+-- what waits of each kind at a seat
+abbrev pub both_in : List (ℕ × UserRow) → SeatRow → Both Resource
+both_in users row = record { master = waits_in Master users row; ask = waits_in Ask users row }
+
 -- a seat as a contract sees it
 abbrev pub seat_of : List (ℕ × UserRow) → ℕ × SeatRow → ℕ × Seat
-seat_of users e = (e.0, record { app = e.1.app; user = user_by e.1.user users; used = used_by e.1.user users; waits = e.1.waits })
+seat_of users e = (e.0, record { app = e.1.app; user = user_by e.1.user users; used = used_by e.1.user users; waits = both_in users e.1 })
 
 -- what a contract sees
 abbrev pub seats_of : Inside → Seats

@@ -14,7 +14,6 @@ use Rattle.ynl_lanes.specs.declared.lane.levels.Level.TheVariants.{Lane, User}
 use Rattle.ynl_lanes.specs.declared.lane.rows.SeatRow.{SeatRow}
 use Rattle.ynl_lanes.specs.declared.lane.rows.UserRow.{UserRow}
 use Rattle.ynl_lanes.specs.declared.lane.rows.Rows.{Rows}
-use Rattle.ynl_lanes.specs.lane.Kinds.{of_kind}
 use Rattle.ynl_lanes.specs.lane.Levels.{AreIn}
 use Rattle.ynl_lanes.specs.lane.Lines.{values_of, IsLine}
 use Rattle.ynl_lanes.specs.lane.Found.{EachSeat}
@@ -46,9 +45,13 @@ pub record IsUse (used : Resource) : Type 0 where
   pub memory : used.memory ≤ 2 ^ 48
   pub vcores : used.vcores ≤ 2 ^ 48
 
--- the user's line has what waits at a seat
-abbrev pub HasWaits : List (ℕ × UserRow) → ℕ → SeatRow → Type 0
-HasWaits users ticket row = (kind : Kind) → slice_index_or (own_values kind row.user users) row.own_slot no_size ≡ of_kind kind row.waits
+-- what waits of a kind at a seat: the user's line has it
+abbrev pub waits_in : Kind → List (ℕ × UserRow) → SeatRow → Resource
+waits_in kind users row = slice_index_or (own_values kind row.user users) row.own_slot no_size
+
+-- the same waits at a seat
+abbrev pub WaitSame : List (ℕ × UserRow) → List (ℕ × UserRow) → SeatRow → Type 0
+WaitSame old new row = (kind : Kind) → waits_in kind new row ≡ waits_in kind old row
 
 -- what holds of each user
 abbrev pub EachUser : (ℕ → UserRow → Type 0) → List (ℕ × UserRow) → Type 0
@@ -59,11 +62,10 @@ pub record IsUserRow (number : ℕ) (row : UserRow) : Type 0 where
   pub line : IsLine row.line
   pub small : IsUse row.used
 
--- each seat stands in the line of the lane and in that of its user, in order, with what waits there
+-- each seat stands in the line of the lane and in that of its user, in order
 pub record IsSeated (rows : Rows) : Type 0 where
   pub distinct : HasDistinctNumbers rows.seats.entries
   pub lines : (level : Level) → AreIn level (tickets_in level rows) rows.seats.entries
-  pub waits : EachSeat (HasWaits rows.users.entries) rows.seats.entries
   pub line : IsLine rows.line
   pub users : EachUser IsUserRow rows.users.entries
 
@@ -73,19 +75,19 @@ pub record IsStood (kind : Kind) (seats : List (ℕ × SeatRow)) (users : List (
   pub stand : SeatRow
   pub found : lookup (nat_eq ticket) seats ≡ Some stand
   pub user : stand.user ≡ row.user
-  pub waits : IsWaiting (of_kind kind stand.waits)
+  pub waits : IsWaiting (waits_in kind users stand)
   pub front : stand.slot ≤ row.slot
-  pub low : IsBelowRequest (slice_index_or values stand.slot no_user) (used_by row.user users) (of_kind kind row.waits)
+  pub low : IsBelowRequest (slice_index_or values stand.slot no_user) (used_by row.user users) (waits_in kind users row)
 
 -- so it is wherever something waits
 abbrev pub AreStood : Kind → Rows → Type 0
 AreStood kind rows =
-    EachSeat (λ _ row. IsWaiting (of_kind kind row.waits) → IsStood kind rows.seats.entries rows.users.entries (values_of kind rows.line) row) rows.seats.entries
+    EachSeat (λ _ row. IsWaiting (waits_in kind rows.users.entries row) → IsStood kind rows.seats.entries rows.users.entries (values_of kind rows.line) row) rows.seats.entries
 
 -- and so it is for all users but one
 abbrev pub AreStoodBut : ℕ → Kind → Rows → Type 0
 AreStoodBut user kind rows =
-    EachSeat (λ _ row. row.user ≢ user → IsWaiting (of_kind kind row.waits) → IsStood kind rows.seats.entries rows.users.entries (values_of kind rows.line) row) rows.seats.entries
+    EachSeat (λ _ row. row.user ≢ user → IsWaiting (waits_in kind rows.users.entries row) → IsStood kind rows.seats.entries rows.users.entries (values_of kind rows.line) row) rows.seats.entries
 
 -- all that a search wants
 pub record IsKept (rows : Rows) : Type 0 where

@@ -6,9 +6,8 @@ use Rattle.ynl_lanes.specs.declared.lane.kinds.Kind.{Kind}
 use Rattle.ynl_lanes.specs.declared.lane.rows.SeatRow.{SeatRow}
 use Rattle.ynl_lanes.specs.declared.lane.rows.UserRow.{UserRow}
 use Rattle.ynl_lanes.specs.declared.lane.search.Found.{Found}
-use Rattle.ynl_lanes.specs.lane.Kinds.{of_kind}
 use Rattle.ynl_lanes.specs.lane.Found.{EachSeat}
-use Rattle.ynl_lanes.specs.lane.Rows.{used_by}
+use Rattle.ynl_lanes.specs.lane.Rows.{used_by, waits_in}
 use Rattle.ynl_lanes.specs.lane.Waiting.{IsWaiting}
 
 -- each of some seats whose application is given something stands in this slot or behind it
@@ -26,18 +25,18 @@ pub record IsFirstGiven {F : Type 0} (holds : SeatRow → Type 0) (gives : ℕ �
   pub first : NoneBefore holds gives seats found.slot
 
 -- the seat is of this user, and what waits there passes a test
-pub record IsOwn (user : ℕ) (kind : Kind) (passes : Resource → Type 0) (row : SeatRow) : Type 0 where
+pub record IsOwn (users : List (ℕ × UserRow)) (user : ℕ) (kind : Kind) (passes : Resource → Type 0) (row : SeatRow) : Type 0 where
   pub own : row.user ≡ user
-  pub fits : passes (of_kind kind row.waits)
+  pub fits : passes (waits_in kind users row)
 
 -- something of a kind waits at the seat
-abbrev pub WaitsAt : Kind → SeatRow → Type 0
-WaitsAt kind row = IsWaiting (of_kind kind row.waits)
+abbrev pub WaitsAt : Kind → List (ℕ × UserRow) → SeatRow → Type 0
+WaitsAt kind users row = IsWaiting (waits_in kind users row)
 
 -- so it does at a seat of the user of the seat in a slot
-abbrev pub IsOfStand : ℕ → Kind → List (ℕ × SeatRow) → SeatRow → Type 0
-IsOfStand stand kind seats row = (ticket : ℕ) × (own : SeatRow) × (lookup (nat_eq ticket) seats ≡ Some own) × (own.slot ≡ stand) × IsOwn own.user kind IsWaiting row
+abbrev pub IsOfStand : ℕ → Kind → List (ℕ × SeatRow) → List (ℕ × UserRow) → SeatRow → Type 0
+IsOfStand stand kind seats users row = (ticket : ℕ) × (own : SeatRow) × (lookup (nat_eq ticket) seats ≡ Some own) × (own.slot ≡ stand) × IsOwn users own.user kind IsWaiting row
 
 -- where an application is given something at whose seat something of a kind waits, its user may have what waits
 abbrev pub MayHaveGiven : {F : Type 0} → Kind → (Resource → Resource → Type 0) → (ℕ → Option F) → List (ℕ × SeatRow) → List (ℕ × UserRow) → Type 0
-MayHaveGiven kind may gives seats users = EachSeat (λ _ row. WaitsAt kind row → IsSome (gives row.app) → may (used_by row.user users) (of_kind kind row.waits)) seats
+MayHaveGiven kind may gives seats users = EachSeat (λ _ row. WaitsAt kind users row → IsSome (gives row.app) → may (used_by row.user users) (waits_in kind users row)) seats

@@ -6,22 +6,23 @@ use Rattle.ynl_lanes.specs.lows.Users.{no_user}
 use Rattle.ynl_lanes.specs.declared.lane.kinds.Kind.{Kind}
 use Rattle.ynl_lanes.specs.lane.Lined.{Lined}
 use Rattle.ynl_lanes.specs.declared.lane.rows.SeatRow.{SeatRow}
-use Rattle.ynl_lanes.specs.lane.Kinds.{of_kind}
+use Rattle.ynl_lanes.specs.declared.lane.rows.UserRow.{UserRow}
 use Rattle.ynl_lanes.specs.lane.Lines.{values_of}
 use Rattle.ynl_lanes.specs.lane.Found.{EachSeat}
+use Rattle.ynl_lanes.specs.lane.Rows.{waits_in}
 use Rattle.ynl_lanes.specs.lane.Waiting.{IsWaiting}
 
 -- the user's first seat at which something of a kind waits
-pub record IsFirstWaiting (user : ℕ) (kind : Kind) (seats : List (ℕ × SeatRow)) (ticket : ℕ) : Type 0 where
+pub record IsFirstWaiting (user : ℕ) (kind : Kind) (seats : List (ℕ × SeatRow)) (users : List (ℕ × UserRow)) (ticket : ℕ) : Type 0 where
   pub row : SeatRow
   pub found : lookup (nat_eq ticket) seats ≡ Some row
   pub own : row.user ≡ user
-  pub waits : IsWaiting (of_kind kind row.waits)
-  pub first : EachSeat (λ _ e. e.user ≡ user → IsWaiting (of_kind kind e.waits) → row.slot ≤ e.slot) seats
+  pub waits : IsWaiting (waits_in kind users row)
+  pub first : EachSeat (λ _ e. e.user ≡ user → IsWaiting (waits_in kind users e) → row.slot ≤ e.slot) seats
 
 -- nothing of a kind waits at any of the user's seats
-abbrev pub NoneWaits : ℕ → Kind → List (ℕ × SeatRow) → Type 0
-NoneWaits user kind seats = EachSeat (λ _ e. e.user ≡ user → ¬ (IsWaiting (of_kind kind e.waits))) seats
+abbrev pub NoneWaits : ℕ → Kind → List (ℕ × SeatRow) → List (ℕ × UserRow) → Type 0
+NoneWaits user kind seats users = EachSeat (λ _ e. e.user ≡ user → ¬ (IsWaiting (waits_in kind users e))) seats
 
 -- of the values in a lane, only some of a kind at the seats of a user change
 pub record ChangesStand (user : ℕ) (kind : Kind) (seats : List (ℕ × SeatRow)) (old new : Lined UserLow) : Type 0 where

@@ -1,13 +1,14 @@
 //! How the rows of a lane change.
 
-ghost use Rattle.std.specs.Prelude.{◌≡◌, ◌≢◌, ◌<◌, ◌+◌, ◌-◌, ◌^◌, IsTrue, option_map, length, Some, nat_eq};
+ghost use Rattle.std.specs.Prelude.{◌≡◌, ◌≢◌, ◌<◌, ◌+◌, ◌-◌, ◌^◌, IsTrue, option_map, Some, nat_eq};
 ghost use Rattle.std.specs.Map.{lookup};
-ghost use Rattle.ynl_slots.specs.Slots.{HasDistinctNumbers, IsLive, with_row, without};
-ghost use Rattle.ynl_lanes.specs.lane.Changes.{SetsWaits, SetsValues, SetsUsed, PushesOwn, PushesSeat, IsOwnRoom, IsPulled, ShowSame, ShowsOther};
+ghost use Rattle.ynl_slots.specs.Slots.{IsLive, without};
+ghost use Rattle.ynl_lanes.specs.declared.lane.kinds.Kind.{Kind};
+ghost use Rattle.ynl_lanes.specs.lows.Lows.{no_size};
+ghost use Rattle.ynl_lanes.specs.lane.Changes.{SetsWaits, KeepWaits, HasValuesAt, AreValues, SetsValues, SetsUsed, PushesOwn, PushesSeat, IsOwnRoom, IsPulled, ShowSame, ShowsOther};
 ghost use Rattle.ynl_lanes.specs.lane.Found.{EachSeat};
 ghost use Rattle.ynl_lanes.specs.lane.Lines.{HasRoom};
-ghost use Rattle.ynl_lanes.specs.lane.Rows.{IsKept, IsUse};
-ghost use Rattle.ynl_lanes.specs.lane.Seats.{nothing_waits};
+ghost use Rattle.ynl_lanes.specs.lane.Rows.{waits_in, IsKept, IsUse};
 
 use crate::lane::kinds::Both;
 use crate::lane::rows::{Rows, SeatRow, UserRow};
@@ -15,35 +16,20 @@ use crate::lows::Low;
 use ynl_resource::Resource;
 use ynl_slots::Slots;
 
-/// Whether just these things wait at a seat.
-fn has_waits(seats: &Slots<SeatRow>, ticket: u32, waits: &Both<Low>) -> bool
-    requires live { IsLive ticket seats.now.entries }
-    requires distinct { HasDistinctNumbers seats.now.entries }
-    ensures { IsTrue result → SetsWaits ticket waits.now seats.now.entries seats.now.entries }
+/// Whether the user's line has just these values at a slot.
+fn has_values(users: &Slots<UserRow>, user: u32, slot: usize, waits: &Both<Low>) -> bool
+    requires live { IsLive user users.now.entries }
+    requires inside { HasValuesAt user slot users.now.entries }
+    ensures { IsTrue result → AreValues user slot waits.now users.now.entries }
 {
-    let row = &seats[ticket];
-    row.waits.master == waits.master && row.waits.ask == waits.ask
-}
-
-/// Other things wait at a seat. It returns the row.
-fn set_waits(seats: &mut Slots<SeatRow>, ticket: u32, waits: &Both<Low>) -> SeatRow
-    requires { IsLive ticket seats.old.entries }
-    ensures entries { seats.new.entries ≡ with_row ticket (record result { waits = waits.now }) seats.old.entries }
-    ensures found { lookup (nat_eq ticket) seats.old.entries ≡ Some result }
-    ensures room { seats.new.room ≡ seats.old.room }
-{
-    let row = seats[ticket];
-    seats[ticket] = SeatRow {
-        waits: *waits,
-        ..row
-    };
-    row
+    let before = users[user].line.at(slot);
+    before.master == waits.master && before.ask == waits.ask
 }
 
 /// The user's line has what waits at a slot.
 fn set_values(users: &mut Slots<UserRow>, user: u32, slot: usize, waits: &Both<Low>)
     requires live { IsLive user users.old.entries }
-    requires inside { (row : _) → lookup (nat_eq user) users.old.entries ≡ Some row → (slot < length row.line.masters) × (slot < length row.line.asks) }
+    requires inside { HasValuesAt user slot users.old.entries }
     ensures { SetsValues user slot waits.now users.old.entries users.new.entries }
 {
     users[user].line.set_both(slot, waits);
@@ -84,13 +70,14 @@ impl Rows {
         requires kept { IsKept self.old }
         requires live { IsLive ticket self.old.seats.entries }
         ensures kept { IsKept self.new }
-        ensures seats { SetsWaits ticket waits.now self.old.seats.entries self.new.seats.entries }
+        ensures seats { self.new.seats ≡ self.old.seats }
+        ensures waits { SetsWaits ticket waits.now self.old.seats.entries self.old.users.entries self.new.users.entries }
         ensures users { ShowSame self.old.users.entries self.new.users.entries }
     {
-        if has_waits(&self.seats, ticket, waits) {
+        let row = self.seats[ticket];
+        if has_values(&self.users, row.user, row.own_slot as usize, waits) {
             return;
         }
-        let row = set_waits(&mut self.seats, ticket, waits);
         set_values(&mut self.users, row.user, row.own_slot as usize, waits);
         self.stand_anew(row.user);
     }
@@ -102,6 +89,7 @@ impl Rows {
         requires small { IsUse used }
         ensures kept { IsKept self.new }
         ensures seats { self.new.seats.entries ≡ self.old.seats.entries }
+        ensures waits { KeepWaits self.old.users.entries self.new.users.entries self.old.seats.entries }
         ensures users { ShowsOther user (λ shown. record shown { used = used }) self.old.users.entries self.new.users.entries }
     {
         set_used(&mut self.users, user, used);
@@ -116,7 +104,8 @@ impl Rows {
         requires room { HasRoom self.old.line }
         requires own_room { IsOwnRoom user self.old.users.entries }
         ensures kept { IsKept self.new }
-        ensures seats { PushesSeat app user result self.old.seats.entries self.new.seats.entries }
+        ensures seats { PushesSeat app user result self.new.users.entries self.old.seats.entries self.new.seats.entries }
+        ensures waits { KeepWaits self.old.users.entries self.new.users.entries self.old.seats.entries }
         ensures small { result < 2 ^ 32 - 1 }
         ensures users { ShowsOther user (λ shown. record shown { live = shown.live + 1 }) self.old.users.entries self.new.users.entries }
     {
@@ -127,10 +116,6 @@ impl Rows {
             user,
             slot,
             own_slot,
-            waits: Both {
-                master: Low::NONE,
-                ask: Low::NONE,
-            },
         });
         self.line.push(ticket);
         push_own(&mut self.users, user, ticket);
@@ -141,11 +126,12 @@ impl Rows {
     pub(crate) fn pull(&mut self, ticket: u32) -> u32
         requires kept { IsKept self.old }
         requires live { IsLive ticket self.old.seats.entries }
-        requires nothing { (row : _) → lookup (nat_eq ticket) self.old.seats.entries ≡ Some row → row.waits ≡ nothing_waits }
+        requires nothing { (row : _) → lookup (nat_eq ticket) self.old.seats.entries ≡ Some row → (kind : Kind) → waits_in kind self.old.users.entries row ≡ no_size }
         requires some { (row : _) (own : _) → lookup (nat_eq ticket) self.old.seats.entries ≡ Some row → lookup (nat_eq row.user) self.old.users.entries ≡ Some own → 0 < own.live }
         ensures kept { IsKept self.new }
         ensures user { option_map (λ row. row.user) (lookup (nat_eq ticket) self.old.seats.entries) ≡ Some result }
         ensures seats { self.new.seats.entries ≡ without ticket self.old.seats.entries }
+        ensures waits { KeepWaits self.old.users.entries self.new.users.entries self.old.seats.entries }
         ensures users { ShowsOther result (λ shown. record shown { live = shown.live - 1 }) self.old.users.entries self.new.users.entries }
     {
         let row = self.seats.remove(ticket);

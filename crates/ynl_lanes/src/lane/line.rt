@@ -1,6 +1,6 @@
 //! Lines of tickets, with a value of each kind at each slot: the first slot takes no memory.
 
-ghost use Rattle.std.specs.Prelude.{◌≡◌, ◌<◌, ◌++◌, ◌∷◌, [], ◌≤◌, ◌≢◌, length, slice_get, slice_set, slice_index, take, All, IfSome, IfNone, OnOk, IsTrue};
+ghost use Rattle.std.specs.Prelude.{◌≡◌, ◌<◌, ◌++◌, ◌∷◌, [], ◌≤◌, ◌≢◌, length, slice_get, slice_set, slice_index, slice_index_or, take, All, IfSome, IfNone, OnOk, IsTrue};
 ghost use Rattle.ynl_lanes.specs.firsts.Firsts.{IsFilledUp, IsFirst, NonePasses};
 ghost use Rattle.ynl_lanes.specs.lane.Lines.{values_of, moved, HasRoom, IsLine};
 
@@ -152,6 +152,19 @@ impl<T: Least> Line<T> {
         match &mut self.long {
             Some(long) => long.set(kind, slot, value),
             None => self.values = self.values.with(kind, value),
+        }
+    }
+
+    /// The values at a slot.
+    pub(crate) fn at(&self, slot: usize) -> Both<T>
+        requires master { slot < length self.now.masters }
+        requires ask { slot < length self.now.asks }
+        ensures master { result.master ≡ slice_index_or self.now.masters slot T.none }
+        ensures ask { result.ask ≡ slice_index_or self.now.asks slot T.none }
+    {
+        match &self.long {
+            Some(long) => long.at(slot),
+            None => self.values,
         }
     }
 

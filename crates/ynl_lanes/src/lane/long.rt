@@ -1,6 +1,6 @@
 //! Lines of tickets that have memory, for more than one.
 
-ghost use Rattle.std.specs.Prelude.{◌≡◌, ◌<◌, ◌++◌, ◌∷◌, [], ◌≤◌, ◌≢◌, length, slice_get, slice_set, slice_index, take, All, IfOk, IfSome, IfNone, OnOk, IsTrue};
+ghost use Rattle.std.specs.Prelude.{◌≡◌, ◌<◌, ◌++◌, ◌∷◌, [], ◌≤◌, ◌≢◌, length, slice_get, slice_set, slice_index, slice_index_or, take, All, IfOk, IfSome, IfNone, OnOk, IsTrue};
 ghost use Rattle.ynl_lanes.specs.firsts.Firsts.{IsFilledUp, IsFirst, NonePasses};
 ghost use Rattle.ynl_lanes.specs.lane.Lines.{values_of, moved, HasRoom, IsLine};
 
@@ -148,6 +148,17 @@ impl<T: Least> Long<T> {
         match kind {
             Kind::Master => self.masters.set(slot, value),
             Kind::Ask => self.asks.set(slot, value),
+        }
+    }
+
+    /// The values at a slot.
+    pub(crate) fn at(&self, slot: usize) -> Both<T>
+        ensures master { result.master ≡ slice_index_or self.now.masters slot T.none }
+        ensures ask { result.ask ≡ slice_index_or self.now.asks slot T.none }
+    {
+        Both {
+            master: self.masters.get(slot),
+            ask: self.asks.get(slot),
         }
     }
 

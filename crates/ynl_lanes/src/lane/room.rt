@@ -20,7 +20,7 @@ impl Rows {
     pub(crate) fn make_room(&mut self) -> Result<(), AllocError>
         requires { IsKept self.old }
         ensures kept { IsKept self.new }
-        ensures seats { ArePairs IsSameSeat self.old.seats.entries self.new.seats.entries }
+        ensures seats { ArePairs (IsSameSeat self.old.users.entries self.new.users.entries) self.old.seats.entries self.new.seats.entries }
         ensures users { self.new.users ≡ self.old.users }
         ensures seat_room { OnOk result (0 < self.new.seats.room) }
         ensures room { OnOk result (HasRoom self.new.line) }
@@ -35,7 +35,7 @@ impl Rows {
         requires kept { IsKept self.old }
         requires live { IsLive user self.old.users.entries }
         ensures kept { IsKept self.new }
-        ensures seats { ArePairs IsSameSeat self.old.seats.entries self.new.seats.entries }
+        ensures seats { ArePairs (IsSameSeat self.old.users.entries self.new.users.entries) self.old.seats.entries self.new.seats.entries }
         ensures users { ShowSame self.old.users.entries self.new.users.entries }
         ensures seat_room { self.new.seats.room ≡ self.old.seats.room }
         ensures line { self.new.line ≡ self.old.line }

@@ -16,8 +16,6 @@ pub(crate) struct SeatRow {
     pub(crate) slot: u32,
     /// The slot among the seats of the user.
     pub(crate) own_slot: u32,
-    /// The least that waits of each kind.
-    pub(crate) waits: Both<Low>,
 }
 
 /// A user with seats.

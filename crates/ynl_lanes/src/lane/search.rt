@@ -76,8 +76,8 @@ impl Rows {
     ) -> Option<Found<F>>
         requires seated { IsSeated self.now }
         requires live { IsLive user self.now.users.entries }
-        ensures none { IfNone result (NoneBefore (IsOwn user kind (P.passes test.now)) (R.gives request.now) self.now.seats.entries end) }
-        ensures some { IfSome result (IsFirstGiven (IsOwn user kind (P.passes test.now)) (R.gives request.now) self.now.seats.entries end) }
+        ensures none { IfNone result (NoneBefore (IsOwn self.now.users.entries user kind (P.passes test.now)) (R.gives request.now) self.now.seats.entries end) }
+        ensures some { IfSome result (IsFirstGiven (IsOwn self.now.users.entries user kind (P.passes test.now)) (R.gives request.now) self.now.seats.entries end) }
     {
         let line = &self.users[user].line;
         let mut from = 0;
@@ -113,8 +113,8 @@ impl Rows {
     ) -> Option<Found<F>>
         requires seated { IsSeated self.now }
         requires may { MayHaveGiven kind (T.may test.now) (R.gives request.now) self.now.seats.entries self.now.users.entries }
-        ensures none { IfNone result (NoneBefore (IsOfStand stand kind self.now.seats.entries) (R.gives request.now) self.now.seats.entries end) }
-        ensures some { IfSome result (IsFirstGiven (IsOfStand stand kind self.now.seats.entries) (R.gives request.now) self.now.seats.entries end) }
+        ensures none { IfNone result (NoneBefore (IsOfStand stand kind self.now.seats.entries self.now.users.entries) (R.gives request.now) self.now.seats.entries end) }
+        ensures some { IfSome result (IsFirstGiven (IsOfStand stand kind self.now.seats.entries self.now.users.entries) (R.gives request.now) self.now.seats.entries end) }
     {
         let Some((_ticket, row)) = seat_at(&self.seats, Level::Lane, &self.line, stand) else {
             return None;
@@ -136,8 +136,8 @@ impl Rows {
     ) -> Option<Found<F>>
         requires kept { IsKept self.now }
         requires may { MayHaveGiven kind (T.may test.now) (R.gives request.now) self.now.seats.entries self.now.users.entries }
-        ensures none { IfNone result (NoneBefore (WaitsAt kind) (R.gives request.now) self.now.seats.entries before) }
-        ensures some { IfSome result (IsFirstGiven (WaitsAt kind) (R.gives request.now) self.now.seats.entries before) }
+        ensures none { IfNone result (NoneBefore (WaitsAt kind self.now.users.entries) (R.gives request.now) self.now.seats.entries before) }
+        ensures some { IfSome result (IsFirstGiven (WaitsAt kind self.now.users.entries) (R.gives request.now) self.now.seats.entries before) }
     {
         let mut best: Option<Found<F>> = None;
         let mut end = before;

@@ -16,8 +16,8 @@ impl Rows {
     fn first_waiting(&self, user: u32, kind: Kind) -> Option<u32>
         requires seated { IsSeated self.now }
         requires live { IsLive user self.now.users.entries }
-        ensures some { IfSome result (IsFirstWaiting user kind self.now.seats.entries) }
-        ensures none { IfNone result (NoneWaits user kind self.now.seats.entries) }
+        ensures some { IfSome result (IsFirstWaiting user kind self.now.seats.entries self.now.users.entries) }
+        ensures none { IfNone result (NoneWaits user kind self.now.seats.entries self.now.users.entries) }
     {
         match self.first_own(user, kind, &Waits, &Any, self.line.len()) {
             Some(found) => Some(found.ticket),
@@ -83,7 +83,7 @@ impl Rows {
     fn put_least(&mut self, user: u32, kind: Kind, ticket: u32)
         requires seated { IsSeated self.old }
         requires live { IsLive user self.old.users.entries }
-        requires first { IsFirstWaiting user kind self.old.seats.entries ticket }
+        requires first { IsFirstWaiting user kind self.old.seats.entries self.old.users.entries ticket }
         requires others { AreStoodBut user kind self.old }
         ensures seats { self.new.seats ≡ self.old.seats }
         ensures users { self.new.users ≡ self.old.users }

@@ -21,6 +21,6 @@ returns-clause-seats c =
     let own = live_row c.in-Some.user rows.users.entries is_ready.live in
     let ready : c.args.self.now.ready ≡ Some (user_by c.in-Some.user rows.users.entries) = ap (λ (s : Seats). s.ready) (sym c.self.view_is) ∙ ap (option_map (λ user. user_by user rows.users.entries)) c.in-Some.is in
     let added = seats_added (λ n. get nat_cmp c.self.inside.numbers n) c.args.app c.in-Some.user c.push.result rows c.push.new.self c.self.invariant.kept c.push.ensures.seats c.push.ensures.users
-    (subst (λ ready. AreUsersOf (λ n. get nat_cmp c.self.inside.numbers n) ready rows.seats.entries rows.users.entries) c.in-Some.is c.self.invariant.users) own.0 own.1 in
+    (subst (λ ready. AreUsersOf (λ n. get nat_cmp c.self.inside.numbers n) ready rows.seats.entries rows.users.entries) c.in-Some.is c.self.invariant.users) c.push.ensures.waits own.0 own.1 in
     subst (λ o. IfSome o (λ user. Adds c.args.app c.push.result user c.args.self.now.seats (map (seat_of c.push.new.self.users.entries) c.push.new.self.seats.entries))) (sym ready)
     (subst (λ seen. Adds c.args.app c.push.result (user_by c.in-Some.user rows.users.entries) seen (map (seat_of c.push.new.self.users.entries) c.push.new.self.seats.entries)) (ap (λ (s : Seats). s.seats) c.self.view_is) added)

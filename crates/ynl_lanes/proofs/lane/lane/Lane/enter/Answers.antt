@@ -12,11 +12,11 @@ enter-requires-clause-live c = live_shown c.self.inside.rows.users.entries c.arg
 pub invariant_of-self : goal.invariant_of-self
 invariant_of-self c = record {
   kept = c.enter.ensures.kept;
-  users = users_entered (λ n. get nat_cmp c.self.inside.numbers n) c.self.inside.ready c.self.inside.rows c.enter.new.self c.self.invariant.kept c.args.ticket c.args.waits.now c.enter.ensures.seats c.enter.ensures.users c.self.invariant.users;
+  users = users_entered (λ n. get nat_cmp c.self.inside.numbers n) c.self.inside.ready c.self.inside.rows c.enter.new.self c.self.invariant.kept c.enter.ensures.seats c.args.ticket c.args.waits.now c.enter.ensures.waits c.enter.ensures.users c.self.invariant.users;
   ready = none_ready (λ user. user_by user c.self.inside.rows.users.entries) (IsReady c.enter.new.self) c.self.inside.ready (ap (λ (s : Seats). s.ready) c.self.view_is ∙ c.give_up_room.ensures.ready);
 }
 
 pub returns-clause-seats : goal.returns-clause-seats
 returns-clause-seats c =
-    seats_entered (λ n. get nat_cmp c.self.inside.numbers n) c.self.inside.ready c.self.inside.rows c.enter.new.self c.self.invariant.kept c.args.ticket c.args.waits.now c.enter.ensures.seats c.enter.ensures.users
+    seats_entered (λ n. get nat_cmp c.self.inside.numbers n) c.self.inside.ready c.self.inside.rows c.enter.new.self c.self.invariant.kept c.enter.ensures.seats c.args.ticket c.args.waits.now c.enter.ensures.waits c.enter.ensures.users
     ∙ ap (with_waits c.args.ticket c.args.waits.now) (ap (λ (s : Seats). s.seats) c.self.view_is ∙ c.give_up_room.ensures.seats)

@@ -6,7 +6,9 @@ use Rattle.std.specs.Ordering.{nat_cmp}
 use Rattle.ynl_lanes.specs.declared.lane.rows.SeatRow.{SeatRow}
 use Rattle.ynl_lanes.specs.declared.lane.rows.UserRow.{UserRow}
 use Rattle.ynl_lanes.specs.lane.Fields.{seat_of, user_by, AreUsersOf, IsReady}
+use Rattle.ynl_lanes.specs.lane.Rows.{WaitSame}
 use Rattle.ynl_lanes.specs.lane.Seats.{Seat, Seats, with_used}
+use Rattle.ynl_lanes.proofs.lane.Found.{all_from_each}
 use Rattle.ynl_lanes.proofs.lane.Standing.{user_live}
 use Rattle.ynl_lanes.proofs.lane.Views.{seat_found, view_used, users_used}
 use Rattle.ynl_lanes.proofs.lane.Keeping.{live_shown, is_none, keyed_of, have_rows, live_row}
@@ -40,5 +42,6 @@ returns-clause-seats c =
     ap (lookup (nat_eq c.args.ticket)) (sym view) ∙ seat_found users c.args.ticket c.self.inside.rows.seats.entries ∙ ap (option_map (λ (row : SeatRow). (seat_of users (c.args.ticket, row)).1)) c.index.ensures in
     let changed = ap (map (seat_of c.use_other.new.self.users.entries)) c.use_other.ensures.seats
     ∙ view_used (λ n. get nat_cmp c.self.inside.numbers n) users (keyed_of (λ n. get nat_cmp c.self.inside.numbers n) c.self.inside.ready c.self.inside.rows.seats.entries users c.self.invariant.users) c.index.result.now.user own.0 own.1 c.args.used c.use_other.new.self.users.entries c.use_other.ensures.users c.self.inside.rows.seats.entries (have_rows c.self.inside.rows c.self.invariant.kept)
+    (all_from_each (λ e. WaitSame users c.use_other.new.self.users.entries e.1) c.self.inside.rows.seats.entries c.self.invariant.kept.seated.distinct c.use_other.ensures.waits)
     ∙ ap (λ n. with_used n c.args.used (map (seat_of users) c.self.inside.rows.seats.entries)) (sym user_is) ∙ ap (with_used (user_by c.index.result.now.user users) c.args.used) view in
     subst (λ o. IfSome o (λ (seat : Seat). map (seat_of c.use_other.new.self.users.entries) c.use_other.new.self.seats.entries ≡ with_used seat.user c.args.used c.args.self.now.seats)) (sym seen) changed
