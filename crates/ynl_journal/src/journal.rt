@@ -101,6 +101,19 @@ impl Book {
         &self.events
     }
 
+    /// The events alone. The cluster goes.
+    pub fn into_events(self) -> Events
+        ensures { result ≡ events_in self.entries }
+    {
+        let Book {
+            start: _,
+            core: _,
+            events,
+            planned: _,
+        } = self;
+        events
+    }
+
     /// The entries, in the order in which their events came. Each reply that is there is the cluster's: a second
     /// cluster like the one that the book began with answers the events once more.
     pub fn entries(&self, alloc: Global) -> Result<Vec<Entry>, NoMemory>

@@ -6,6 +6,7 @@ ghost use Rattle.ynl_journal.specs.StartFields.{led_to};
 use crate::replaying::replay_history;
 use std::alloc::Global;
 use std::marker::Model;
+use std::sync::Arc;
 use ynl_core::{Core, NoMemory};
 use ynl_model::Node;
 use ynl_packed::{Entries, Events};
@@ -113,6 +114,27 @@ impl Start {
         match &self.at {
             Beginning::Opened(config, events) => led_to(alloc, config.copy(alloc)?, events),
             Beginning::Resumed(core) => core.copy(),
+        }
+    }
+
+    /// This cluster itself, if it has a state and nobody else shares the start, else a second one like it. `Err` only if
+    /// memory is refused.
+    pub fn into_cluster(start: Arc<Start>, alloc: Global) -> Result<Core, NoMemory>
+        ensures { IfOk result (λ core. core ≡ start.value) }
+    {
+        match Arc::try_unwrap(start) {
+            Ok(start) => start.own_cluster(alloc),
+            Err(shared) => shared.cluster(alloc),
+        }
+    }
+
+    fn own_cluster(self, alloc: Global) -> Result<Core, NoMemory>
+        ensures { IfOk result (λ core. core ≡ self) }
+    {
+        let Start { at } = self;
+        match at {
+            Beginning::Opened(config, events) => led_to(alloc, config, &events),
+            Beginning::Resumed(core) => Ok(core),
         }
     }
 

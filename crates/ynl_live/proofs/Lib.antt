@@ -3,3 +3,4 @@ pub mod Marks
 pub mod Lists
 pub mod Sums
 pub mod Sightings
+pub mod Alone

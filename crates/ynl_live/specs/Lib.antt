@@ -5,6 +5,7 @@ pub mod Marks
 pub mod Misfits
 pub mod Faults
 pub mod Causes
+pub mod Closing
 pub mod Alone
 pub mod Counts
 pub mod Sightings

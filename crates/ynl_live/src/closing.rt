@@ -1,9 +1,12 @@
 //! The end of a live scheduler: the closed journal.
 
-ghost use Rattle.std.specs.Prelude.{◌≡◌, [], All, length, IfOk, OnOk, IfErr};
+ghost use Rattle.std.specs.Prelude.{◌≡◌, [], List, All, length, IfOk, OnOk, IfErr};
 ghost use Rattle.ynl_journal.specs.Journal.{IsHistoryFrom, events_in, replayed_from};
+ghost use Rattle.ynl_model.specs.declared.events.Event.{Event};
+ghost use Rattle.ynl_core.specs.World.{World};
 ghost use Rattle.ynl_live.specs.Alone.{ShowTenantsAloneFrom};
 ghost use Rattle.ynl_live.specs.Causes.{IsCause, IsCauseFor};
+ghost use Rattle.ynl_live.specs.Closing.{IsClosing};
 ghost use Rattle.ynl_live.specs.Marks.{IsMarked};
 ghost use Rattle.ynl_live.specs.Receipts.{all_receipts, EachOnce, ListFits, calls_on, IsOneForEach};
 
@@ -96,6 +99,34 @@ pub fn close(
     }
 }
 
+/// Ends a live scheduler as `close` does, and for good: the events are replayed by the cluster that the journal began with, so
+/// there is no second one beside it, and the scheduler's own goes before. At a cause nothing comes back.
+///
+/// It is one call of `close_events`: the contract of that ties the entries and the cause to the events of the book.
+pub fn close_for_good(
+    alloc: Global,
+    live: Live,
+    seats: &[Seat],
+    lists: &[Receipts],
+) -> Result<Closed, Cause>
+    ensures core { IfOk result (λ closed. closed.core ≡ replayed_from live.config live.state closed.entries) }
+    ensures history { IfOk result (λ closed. IsHistoryFrom live.config live.state closed.entries) }
+    ensures alone { IfOk result (λ closed. ShowTenantsAloneFrom live closed.entries) }
+    ensures calls { IfOk result (λ closed. length closed.entries ≡ calls_on seats.now) }
+    ensures lists { OnOk result (IsOneForEach seats.now lists.now) }
+    ensures receipts { IfOk result (λ closed. All (λ list. ListFits closed.entries list) lists.now) }
+    ensures once { IfOk result (λ closed. EachOnce (length closed.entries) (all_receipts lists.now)) }
+    ensures cause { IfErr result (IsCauseFor live seats.now lists.now) }
+{
+    let (start, book) = live.into_parts();
+    let events = book.into_events();
+    check_handed(events.len() as u64, seats, lists)?;
+    let Ok(core) = Start::into_cluster(start, alloc) else {
+        return Err(Cause::NoMemory);
+    };
+    close_events(alloc, core, &events, seats, lists)
+}
+
 /// The closed history of a book's events, where the receipts of all seats fit it; else the book as it is.
 fn close_book(
     alloc: Global,
@@ -104,42 +135,81 @@ fn close_book(
     seats: &[Seat],
     lists: &[Receipts],
 ) -> Result<Closed, (Cause, Book)>
-    ensures events { IfOk result (λ closed. events_in closed.entries ≡ events_in book.entries) }
-    ensures core { IfOk result (λ closed. closed.core ≡ replayed_from start.now.config start.now.state closed.entries) }
-    ensures history { IfOk result (λ closed. IsHistoryFrom start.now.config start.now.state closed.entries) }
-    ensures calls { IfOk result (λ closed. length closed.entries ≡ calls_on seats.now) }
-    ensures lists { OnOk result (IsOneForEach seats.now lists.now) }
-    ensures receipts { IfOk result (λ closed. All (λ list. ListFits closed.entries list) lists.now) }
-    ensures once { IfOk result (λ closed. EachOnce (length closed.entries) (all_receipts lists.now)) }
+    ensures closed { IfOk result (IsClosing start.now (events_in book.entries) seats.now lists.now) }
     ensures book { IfErr result (λ back. back.1 ≡ book) }
     ensures cause { IfErr result (λ back. IsCause start.now (events_in book.entries) seats.now lists.now back.0) }
 {
-    if !are_calls(seats, book.len() as u64) {
-        return Err((Cause::SeatsMissing, book));
+    match close_copy(alloc, start, book.events(), seats, lists) {
+        Ok(closed) => Ok(closed),
+        Err(cause) => Err((cause, book)),
+    }
+}
+
+/// The same of its events alone, by a second cluster like that of the start.
+fn close_copy(
+    alloc: Global,
+    start: &Start,
+    events: &Events,
+    seats: &[Seat],
+    lists: &[Receipts],
+) -> Result<Closed, Cause>
+    ensures closed { IfOk result (IsClosing start.now events.now seats.now lists.now) }
+    ensures cause { IfErr result (IsCause start.now events.now seats.now lists.now) }
+{
+    check_handed(events.len() as u64, seats, lists)?;
+    let Ok(core) = start.cluster(alloc) else {
+        return Err(Cause::NoMemory);
+    };
+    close_events(alloc, core, events, seats, lists)
+}
+
+/// Whether the seats that were handed in have so many calls, and there is a list of receipts for each.
+fn check_handed(calls: u64, seats: &[Seat], lists: &[Receipts]) -> Result<(), Cause>
+    ensures handed { OnOk result ((calls_on seats.now ≡ calls) × IsOneForEach seats.now lists.now) }
+    ensures cause { (w : World) (events : List Event) → length events ≡ calls → IfErr result (IsCause w events seats.now lists.now) }
+{
+    if !are_calls(seats, calls) {
+        return Err(Cause::SeatsMissing);
     }
     if !is_one_for_each(seats, lists) {
-        return Err((Cause::ReceiptsMissing, book));
+        return Err(Cause::ReceiptsMissing);
     }
-    let Ok(closed) = replayed(alloc, start, book.events()) else {
-        return Err((Cause::NoMemory, book));
+    Ok(())
+}
+
+/// The closed history of these events, from this cluster on, where the receipts of all seats fit it.
+fn close_events(
+    alloc: Global,
+    core: Core,
+    events: &Events,
+    seats: &[Seat],
+    lists: &[Receipts],
+) -> Result<Closed, Cause>
+    requires calls { calls_on seats.now ≡ length events.now }
+    requires lists { IsOneForEach seats.now lists.now }
+    ensures closed { IfOk result (IsClosing core events.now seats.now lists.now) }
+    ensures cause { IfErr result (IsCause core events.now seats.now lists.now) }
+{
+    let Ok(closed) = replayed(alloc, core, events) else {
+        return Err(Cause::NoMemory);
     };
     let Ok(mut marks) = unmarked(alloc, closed.entries.len()) else {
-        return Err((Cause::NoMemory, book));
+        return Err(Cause::NoMemory);
     };
     match mark_lists(&closed.entries, marks.as_mut_slice(), lists) {
         Ok(()) => Ok(closed),
-        Err(place) => Err((Cause::Mismatch(place), book)),
+        Err(place) => Err(Cause::Mismatch(place)),
     }
 }
 
 /// The closed history of events, and the cluster that it leads to.
-fn replayed(alloc: Global, start: &Start, events: &Events) -> Result<Closed, NoMemory>
+fn replayed(alloc: Global, core: Core, events: &Events) -> Result<Closed, NoMemory>
     ensures events { IfOk result (λ closed. events_in closed.entries ≡ events.now) }
-    ensures core { IfOk result (λ closed. closed.core ≡ replayed_from start.now.config start.now.state closed.entries) }
-    ensures history { IfOk result (λ closed. IsHistoryFrom start.now.config start.now.state closed.entries) }
+    ensures core { IfOk result (λ closed. closed.core ≡ replayed_from core.config core.state closed.entries) }
+    ensures history { IfOk result (λ closed. IsHistoryFrom core.config core.state closed.entries) }
     ensures len { IfOk result (λ closed. length closed.entries ≡ length events.now) }
 {
-    let mut core = start.cluster(alloc)?;
+    let mut core = core;
     let entries = replay_history(alloc, &mut core, events)?;
     Ok(Closed { core, entries })
 }

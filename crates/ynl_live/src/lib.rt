@@ -11,7 +11,7 @@
 #![tactic(auto)]
 
 pub use calling::{CallFault, Live};
-pub use closing::{Cause, Closed, Unclosed, close};
+pub use closing::{Cause, Closed, Unclosed, close, close_for_good};
 pub use receipts::{Receipt, Receipts};
 pub use seats::Seat;
 

@@ -14,7 +14,7 @@ use std::thread::Threads;
 use thiserror::Error;
 use ynl_core::NoMemory;
 use ynl_journal::Start;
-use ynl_live::{CallFault, Cause, Live, close};
+use ynl_live::{CallFault, Cause, Live, close_for_good};
 use ynl_model::Node;
 use ynl_packed::{Entries, Events};
 use ynl_resource::Name;
@@ -128,9 +128,9 @@ fn run_rounds<T: Threads + Wait + Sync, G: Gate + Sync>(
     let mut handed = Handed::new(alloc);
     handed.run_rounds(rt, alloc, &crew, &nodes, rounds, gate)?;
     let Handed { seats, lists } = handed;
-    match close(alloc, live, seats, &lists) {
+    match close_for_good(alloc, live, &seats, &lists) {
         Ok(closed) => Ok(closed.entries),
-        Err(unclosed) => Err(fault_of(unclosed.cause)),
+        Err(cause) => Err(fault_of(cause)),
     }
 }
 

@@ -6,7 +6,7 @@ use crate::values::{ASK, HEARTBEAT, NODE, POLL, SUBMIT, event_of, keep, two};
 use std::alloc::Global;
 use std::process::Abort;
 use std::sync::Wait;
-use ynl_live::{Cause, Live, Receipt, Receipts, Seat, Unclosed};
+use ynl_live::{Cause, Live, Receipt, Receipts, Seat, Unclosed, close_for_good};
 use ynl_model::{Event, Reply};
 use ynl_resource::Refusal;
 
@@ -278,4 +278,28 @@ fn closes_where_neighbours_are_exchanged(rt: HostRuntime) {
         let lists = lists_of(&rt, alloc, &receipts, first, second);
         assert!(rt; closed_by(&rt, alloc, callers, &lists) == 6);
     }
+}
+
+/// The number of entries of the journal that is closed for good, or the cause for which it is not. Like `closed_once` it has
+/// no contract.
+fn closed_for_good(alloc: Global, callers: Callers, lists: &[Receipts]) -> Result<usize, Cause> {
+    let Callers { live, seats } = callers;
+    let closed = close_for_good(alloc, live, &seats, lists)?;
+    Ok(closed.entries.len())
+}
+
+/// Each row is tried with callers of its own, since nothing comes back.
+#[test]
+fn closes_for_good_where_no_receipt_is_altered(rt: HostRuntime) {
+    let alloc = rt.alloc();
+    for (first, second, cause) in ROWS {
+        let mut receipts = Vec::new(alloc);
+        let callers = callers_of_rows(&rt, alloc, &mut receipts);
+        let lists = lists_of(&rt, alloc, &receipts, first, second);
+        assert!(rt; closed_for_good(alloc, callers, &lists) == Err(*cause));
+    }
+    let mut receipts = Vec::new(alloc);
+    let callers = two_callers(&rt, alloc, &mut receipts, &EVENTS, Tells::TheTruth);
+    let lists = lists_of(&rt, alloc, &receipts, "024", "135");
+    assert!(rt; closed_for_good(alloc, callers, &lists) == Ok(6));
 }

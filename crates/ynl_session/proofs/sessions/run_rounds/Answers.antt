@@ -25,4 +25,4 @@ returns-in-Ok g c =
     rounds_alone free c.args.start c.args.rounds entries nodes lists
     (subst D c.deref.ensures.value (subst O c.new-handed.ensures c.in_ok-run_rounds.ensures))
     c.in_ok-nodes.ensures.apart c.in_ok-nodes.ensures.all (subst H same c.in-Ok.ensures.history) (subst A same c.in-Ok.ensures.alone)
-    (subst F c.deref-2.ensures.value c.in-Ok.ensures.receipts) (subst E c.deref-2.ensures.value c.in-Ok.ensures.once)
+    (subst F c.deref-3.ensures.value c.in-Ok.ensures.receipts) (subst E c.deref-3.ensures.value c.in-Ok.ensures.once)
