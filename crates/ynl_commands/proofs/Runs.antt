@@ -24,7 +24,7 @@ use Rattle.ynl_commands.specs.Lines.{AppendsFront, AppendsPart}
 use Rattle.ynl_commands.specs.Readings.{come_to, ReadsTo}
 use Rattle.ynl_commands.specs.Script.{part, Script, script_way, script_of}
 use Rattle.ynl_commands.specs.Run.{line_of, reply_lines, replies_text, fault_lines, faulty, answers_to, run_of}
-use Rattle.ynl_commands.specs.Running.{LeavesMore, Writes, IsRunOf, RunsTo, RunsWhole, Stops, Runs}
+use Rattle.ynl_commands.specs.Running.{LeavesMore, Writes, IsRunOf, RunsTo, Stops, Runs}
 use Rattle.ynl_commands.proofs.Fronts.{front_of_more, part_after, part_of_more}
 use Rattle.ynl_commands.proofs.Inputs.{of_input, line_met_end, both}
 use Rattle.ynl_commands.proofs.Readings.{OfReading, ReadSoFar, empty, nothing_read, reads_on, here, then_long, then_fault, reading_failed, long_reads, long_failed, line_reads, line_failed, ends_too_long, ends_faulty, ends_well}
@@ -200,8 +200,3 @@ stops_at_once a w c s = record {
   written = subst (Appends w w) (sym (ap (λ k. (answers_to c s k).text) (empty script_way))) (Appends-nil w);
   front = for_any a (λ input. AppendsFront w w (run_of c s input).text) (λ input. record { count = 0; bound = omega arith; appended = Appends-nil w });
 }
-
--- the run of the whole input
-pub runs_whole : (reader writer : Stream) (c : Config) (s : State) (r : Result Summary ToolFault) → Runs reader writer c s r → RunsWhole reader writer c s r
-runs_whole reader writer c s (Ok summary) h = h.input
-runs_whole reader writer c s (Err e) h = tt

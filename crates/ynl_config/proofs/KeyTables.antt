@@ -1,20 +1,15 @@
 -- What is taken where nothing stands at a key has no fault.
-use Rattle.std.proofs.Common.{◌≡◌, ℕ, List, Result, Ok, Err, Option, Some, None, refl, sym, ap}
+use Rattle.std.proofs.Common.{◌≡◌, ℕ, List, Result, Ok, Err, Option, Some, None, refl}
 use Rattle.toml.specs.Data.{Data, Members, get_member}
 use Rattle.ynl_config.specs.declared.values.Version.{Version}
 use Rattle.ynl_config.specs.Earliest.{ConfigFault, made}
-use Rattle.ynl_config.specs.Readings.{Gives, or_given, number_of, percent_of, number_at, percent_at}
+use Rattle.ynl_config.specs.Readings.{or_given, number_of, percent_of, number_at, percent_at}
 use Rattle.ynl_config.specs.Places.{has}
 
 -- what a function makes of a reading has its fault
 pub has_made : {A B : Type 0} (fault : ConfigFault) (f : A → B) (r : Result A ConfigFault) → has fault r ≡ has fault (made f r)
 has_made fault f (Ok x) = refl
 has_made fault f (Err e) = refl
-
--- what is given has the fault of what is read
-pub has_given : {A B : Type 0} (fault : ConfigFault) (view : A → B) (r : Result A ConfigFault) (read : Result B ConfigFault) → Gives view r read → has fault r ≡ has fault read
-has_given fault view (Ok x) read h = ap (has fault) (sym h)
-has_given fault view (Err e) read h = ap (has fault) (sym h)
 
 any_given : {A : Type 0} (fault : ConfigFault) (g h : A) (read : Data → Result A ConfigFault) (d : Option Data) → has fault (or_given g read d) ≡ has fault (or_given h read d)
 any_given fault g h read None = refl

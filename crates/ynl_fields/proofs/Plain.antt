@@ -176,14 +176,6 @@ count_plain ms h =
     let r = object_some ms plain in
     ap (λ d. option_map members_len (as_object d)) r.2 ∙ ap Some (let n : members_len r.0 ≡ members_len no_members + count ms = counted ms no_members r.0 plain (and_parts _ _ h).1 (lacks_nothing ms) r.1 in omega (arith, n))
 
-pub no_object : (j : json.Json) → is_plain j ≡ true → json_find.as_object j ≡ None → as_object (data_of j) ≡ None
-no_object json.null h e = refl
-no_object (json.boolean b) h e = refl
-no_object (json.number s) h e = ap (λ o. as_object (or_null (option_map number o))) (whole s h).1
-no_object (json.string s) h e = refl
-no_object (json.array js) h e = absurd (true≢false (sym h))
-no_object (json.object ms) h e = absurd (let impossible : Some ms ≡ None = e in cc)
-
 pub count_view : {A : Type 0} → (ms : List (Bor (List ℕ) × Value A)) → count (members_view ms) ≡ length ms
 count_view [] = refl
 count_view (m ∷ ms) = ap suc (count_view ms)

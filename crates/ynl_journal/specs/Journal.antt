@@ -51,10 +51,6 @@ pub record FirstDiffersFrom (c : Config) (s : State) (entries : List Entry) (n :
   pub before : AgreesFrom c s (take (n - 1) entries)
   pub there : AgreesFrom c s (take n entries) → ⊥
 
--- the same from the opening state
-abbrev pub FirstDiffers : Config → List Entry → ℕ → Type 0
-FirstDiffers c entries n = FirstDiffersFrom c (opening c) entries n
-
 -- each entry has the cluster's reply, from a state on
 abbrev pub IsHistoryFrom : Config → State → List Entry → Type 0
 IsHistoryFrom c s entries = map (λ entry. entry.reply) entries ≡ map Some (replies c s (events_in entries))

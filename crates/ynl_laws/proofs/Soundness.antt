@@ -5,6 +5,5 @@ pub mod Steps
 pub mod Ordered
 pub mod Housed
 pub mod Sound
-pub mod Once
 pub mod Working
 pub mod Bounds

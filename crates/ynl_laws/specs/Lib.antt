@@ -20,5 +20,4 @@ pub mod Marks
 pub mod Sharers
 pub mod Owners
 pub mod Tabled
-pub mod Tracks
 pub mod Lulls

@@ -14,10 +14,6 @@ use Rattle.ynl_lines.specs.ReadingReplies.{each}
 abbrev pub after : {A : Type 0} → List A → Result (List A) LineFault → Result (List A) LineFault
 after done rest = rest >>= λ xs. Ok (done ++ xs)
 
-pub nothing_read : {A : Type 0} (rest : Result (List A) LineFault) → after [] rest ≡ rest
-nothing_read (Ok xs) = refl
-nothing_read (Err e) = refl
-
 one_read : {A : Type 0} (done : List A) (x : A) (rest : Result (List A) LineFault) → after done (rest >>= λ xs. Ok (x ∷ xs)) ≡ after (done ++ x ∷ []) rest
 one_read done x (Ok xs) = ap Ok (sym (append_assoc done (x ∷ []) xs))
 one_read done x (Err e) = refl

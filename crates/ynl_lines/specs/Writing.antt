@@ -100,10 +100,6 @@ word_data w = object (member (codes "reply") (string w) no_members)
 abbrev pub refused_data : Refusal → Data
 refused_data r = object (member (codes "refused") (string (word r)) (member (codes "reply") (string (codes "refused")) no_members))
 
--- a reply that is one value under a key, which goes to its place in the order of keys
-abbrev pub keyed_data : List ℕ → Data → List ℕ → Data
-keyed_data key d w = object (put key d (member (codes "reply") (string w) no_members))
-
 -- the reply to a propose: the proposal, or that there is nothing to place
 abbrev pub proposed_data : Option Proposal → Data
 proposed_data None = word_data (codes "nothing")

@@ -1,8 +1,7 @@
 -- A short list kept in a place of fixed length: the list, and fillers after it. The place gives the list back, and the list the place.
 use Rattle.std.specs.Prelude.{◌≡◌, ℕ, ◌-◌, ◌≤◌, List, ◌++◌, length, take, drop, replicate}
-use Rattle.std.proofs.Common.{arith, sym, ap, ◌∙◌, length-append, length-take-le}
-use Rattle.std.proofs.lemmas.List.{length-replicate, take-append-drop}
-use Rattle.std.proofs.Math.Seq.{take-append_seam, drop-append_seam}
+use Rattle.std.proofs.Common.{arith, sym, ap, ◌∙◌, length-take-le}
+use Rattle.std.proofs.lemmas.List.{take-append-drop}
 
 -- the list, and fillers up to the size
 abbrev pub padded : {X : Type 0} → ℕ → X → List X → List X
@@ -13,18 +12,6 @@ pub record IsPadded {X : Type 0} (size : ℕ) (filler : X) (place : List X) (len
   pub whole : length place ≡ size
   pub within : len ≤ size
   pub rest : drop len place ≡ replicate (size - len) filler
-
--- the place gives the list back
-pub take-padded : {X : Type 0} (size : ℕ) (filler : X) (xs : List X) → take (length xs) (padded size filler xs) ≡ xs
-take-padded size filler xs = take-append_seam xs (replicate (size - length xs) filler)
-
--- a list that is short enough stands in its place
-pub IsPadded-padded : {X : Type 0} (size : ℕ) (filler : X) (xs : List X) → length xs ≤ size → IsPadded size filler (padded size filler xs) (length xs)
-IsPadded-padded {X} size filler xs small = record {
-  whole = omega (arith, length-append xs (replicate (size - length xs) filler), length-replicate {A = X} (size - length xs) filler);
-  within = small;
-  rest = drop-append_seam xs (replicate (size - length xs) filler);
-}
 
 -- what stands in a place is as long as the given length
 pub length-kept : {X : Type 0} (size : ℕ) (filler : X) (place : List X) (len : ℕ) → IsPadded size filler place len → length (take len place) ≡ len

@@ -1,5 +1,5 @@
 -- The lines of each state that events reach from one that lines told are sound one after another, and tell that state.
-use Rattle.std.proofs.Common.{◌≡◌, List, [], Some}
+use Rattle.std.proofs.Common.{◌≡◌, List, Some}
 use Rattle.std.specs.List.{AllByRecursion}
 use Rattle.std.specs.Prelude.{IsTrue}
 use Rattle.ynl_model.specs.Accepted.{is_accepted}
@@ -9,12 +9,11 @@ use Rattle.ynl_model.specs.declared.events.Event.{Event}
 use Rattle.ynl_saved.specs.Restoring.{Restored, nothing_restored, restored_by}
 use Rattle.ynl_saved.specs.Saving.{state_lines}
 use Rattle.ynl_laws.specs.Bounded.{AreRanged}
-use Rattle.ynl_laws.specs.Working.{IsRanged, IsWorking}
+use Rattle.ynl_laws.specs.Working.{IsWorking}
 use Rattle.ynl_laws.proofs.Soundness.Working.{working-after}
 use Rattle.ynl_saved.specs.Asks.{AllWithin, IsCounted}
 use Rattle.ynl_saved.proofs.Counts.{within-after}
 use Rattle.ynl_saved.proofs.Restored.{IsRestored, restored-works}
-use Rattle.ynl_saved.proofs.Saveable.{IsSaveable, saveable-after}
 use Rattle.ynl_saved.proofs.Tellable.{tellable-after}
 use Rattle.ynl_saved.proofs.Telling.{tells}
 
@@ -22,15 +21,6 @@ use Rattle.ynl_saved.proofs.Telling.{tells}
 pub reached-tells : (c : Config) → IsTrue (is_accepted c) → (r : Restored) → IsRestored c r → (events : List Event) →
     (new : Restored) × (restored_by c (nothing_restored c) (state_lines c (after c r.state events)) ≡ Some new) × (new.state ≡ after c r.state events)
 reached-tells c accepted r h events = let saveable = h.saveable in tells c accepted (after c r.state events) (tellable-after c accepted events r.state saveable.tellable)
-
--- and so that one itself
-pub restored-tells : (c : Config) → IsTrue (is_accepted c) → (r : Restored) → IsRestored c r →
-    (new : Restored) × (restored_by c (nothing_restored c) (state_lines c r.state) ≡ Some new) × (new.state ≡ r.state)
-restored-tells c accepted r h = reached-tells c accepted r h []
-
--- of each state that events in range reach all is known that was known of the one that lines told
-pub stays-restored : (c : Config) → IsTrue (is_accepted c) → (r : Restored) → IsRestored c r → (events : List Event) → AllByRecursion IsRanged events → IsSaveable c (after c r.state events)
-stays-restored c accepted r h events ranged = saveable-after c accepted events r.state ranged h.saveable
 
 -- each state works that events reach from one that lines told, where their sizes are in range
 pub reached-works : (c : Config) (r : Restored) → IsRestored c r → (events : List Event) → AreRanged events → IsWorking c (after c r.state events)

@@ -6,9 +6,6 @@ use Rattle.ynl_resource.specs.declared.paths.Path.{Path}
 use Rattle.ynl_resource.specs.Names.{way_to}
 use Rattle.ynl_queues.proofs.Prefixes.{way_more}
 use Rattle.ynl_model.specs.Service.{Standing, last_name, standing}
-use Rattle.ynl_layout.specs.Paths.{HasNumber, path_at}
-use Rattle.ynl_inventory.specs.Rows.{Rows}
-use Rattle.ynl_inventory.specs.Sound.{IsSound}
 use Rattle.ynl_cluster.specs.Cluster.{ClusterView, label_of, state_in}
 use Rattle.ynl_sights.specs.Copying.{AreQueuesTo, IsQueueOf}
 use Rattle.ynl_sights.specs.Rows.{reach_of_queue, standing_in}
@@ -48,11 +45,3 @@ queues-more w p leaf k olds news row at pushed so_far is = record {
   stand = pushed-on standing_in (standing w.config (state_in w) (label_of w p)) leaf k olds news row at pushed so_far.stand is.stands;
   reach = pushed-on reach_of_queue (reach_of (state_in w) (label_of w p)) leaf k olds news row at pushed so_far.reach is.reach;
 }
-
--- a queue below root has a name
-pub some-name : (v : Rows) → IsSound v → (q : ℕ) → 0 < q → HasNumber v.paths q → 0 < length (path_at v.paths q)
-some-name v sound q below there = go (path_at v.paths q) refl
-  where
-    go : (path : Path) → path_at v.paths q ≡ path → 0 < length path
-    go [] is = absurd (omega (arith, below, sound.tree.apart q 0 there (omega arith) is))
-    go (name ∷ path) is = omega arith

@@ -2,7 +2,6 @@
 use Rattle.std.proofs.Common.{arith}
 use Rattle.std.proofs.lemmas.Bool.Decides.{nat_tests}
 use Rattle.ynl_resource.specs.declared.amounts.Resource.{Resource}
-use Rattle.ynl_resource.specs.Amounts.{IsSize}
 use Rattle.ynl_lanes.specs.lows.Lows.{IsLow, IsAmount, IsBelow, no_size, no_use}
 
 pub below-refl : (a : Resource) → IsBelow a a
@@ -10,10 +9,6 @@ below-refl a = grind (arith, nat_tests)
 
 pub below-trans : (a b c : Resource) → IsBelow a b → IsBelow b c → IsBelow a c
 below-trans a b c h k = grind (arith, nat_tests)
-
--- a size may be a least
-pub low-size : (size : Resource) → IsSize size → IsLow size
-low-size size h = record { memory = h.memory; vcores = omega (arith, h.vcores) }
 
 -- no least is above what stands for no size
 pub below-no_size : (low : Resource) → IsLow low → IsBelow low no_size

@@ -1,9 +1,8 @@
 -- The first place at which a test passes, and what is written there.
-use Rattle.std.proofs.Common.{◌≡◌, ℕ, suc, ◌+◌, ◌<◌, ◌≤◌, Bool, true, false, not, cond, nat_lt, List, [], ◌∷◌, ◌++◌, length, get_or, slice_get, take, drop, map, Option, Some, None, is_some, IfSome, option_copied, Bor, refl, sym, ap, ◌∙◌, arith}
+use Rattle.std.proofs.Common.{◌≡◌, ℕ, suc, ◌+◌, ◌<◌, ◌≤◌, Bool, true, false, not, cond, nat_lt, List, [], ◌∷◌, ◌++◌, length, get_or, slice_get, Option, Some, None, is_some, IfSome, option_copied, Bor, refl, sym, ap, ◌∙◌, arith}
 use Rattle.std.proofs.Math.ListN.{set}
 use Rattle.std.specs.List.{position_or_len}
 use Rattle.std.proofs.lemmas.Bool.Decides.{nat_tests}
-use Rattle.std.proofs.lemmas.List.Edits.{map_over_more}
 use Rattle.std.proofs.lemmas.Option.{slice_get_past, slice_get_read}
 use Rattle.ynl_resource.specs.Tables.{put}
 
@@ -30,10 +29,6 @@ module _ {X : Type 0} (test : X → Bool) where
           → cond b (new ∷ xs) (x ∷ put test new xs) ≡ x ∷ xs ++ new ∷ []
       go true later k = absurd (omega arith)
       go false later k = ap (λ zs. x ∷ zs) (later (omega arith))
-
--- a loop that writes over each element what a call of `f` gave
-pub map_step : {X : Type 0} (f : X → X) (xs ys : List X) (i : ℕ) (x y : X) → i < length xs → ys ≡ map f (take i xs) ++ drop i xs → x ≡ get_or ys i x → y ≡ f (get_or ys i x) → set ys i y ≡ map f (take (i + 1) xs) ++ drop (i + 1) xs
-map_step f xs ys i x y within so_far read made = ap (set ys i) (made ∙ ap f (sym read)) ∙ map_over_more f xs ys i x within so_far read
 
 -- what is read at a place
 pub item_read : {X : Type 0} (xs : List X) (i : ℕ) (o : Option (Bor X)) → is_some o ≡ nat_lt i (length xs) → IfSome o (λ x. x.now ≡ get_or xs i x.now) → option_copied o ≡ slice_get xs i

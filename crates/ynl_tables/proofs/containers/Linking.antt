@@ -12,7 +12,7 @@ use Rattle.ynl_slots.proofs.Lists.{all_then, all_both, all_front, all_back}
 use Rattle.ynl_tables.specs.containers.Fields.{of_rows}
 use Rattle.ynl_tables.specs.containers.Chains.{numbers_of, IsChainOf, IsFirst, IsNext}
 use Rattle.ynl_slots.proofs.Entries.{lookup-push-other, lookup-without-other, unused_without}
-use Rattle.ynl_tables.proofs.containers.Numbers.{all_numbers, all_of_key, numbers-push-own, numbers-push-other, numbers-without-other, none_from_numbers, no_numbers, Splits, splits}
+use Rattle.ynl_tables.proofs.containers.Numbers.{all_numbers, all_of_key, numbers-push-own, numbers-push-other, numbers-without-other, none_from_numbers, Splits, splits}
 use Rattle.ynl_tables.proofs.containers.Rows.{lookup-of_rows}
 
 -- a chain stays one where the links of its numbers stay
@@ -186,7 +186,3 @@ module _ {C : Type 0} (key : C → ℕ) (cs : List (ℕ × C)) (distinct : HasDi
 pub moved : {C : Type 0} (key : C → ℕ) (ls ls' : List (ℕ × Links)) (cs cs' : List (ℕ × C)) (chain : Chain) (k : ℕ) → ls' ≡ ls → cs' ≡ cs → IsChainOf key ls cs chain k → IsChainOf key ls' cs' chain k
 moved key ls ls' cs cs' chain k same alike c =
     subst (λ (es : List (ℕ × _)). IsChainOf key ls' es chain k) (sym alike) (subst (λ (l : List (ℕ × Links)). IsChainOf key l cs chain k) (sym same) c)
-
--- a chain of no rows is that of a key that no row has
-pub empty_chain : {C : Type 0} (key : C → ℕ) (ls : List (ℕ × Links)) (cs : List (ℕ × C)) (chain : Chain) (k : ℕ) → ((at : ℕ → Option Links) → IsChain at chain []) → AllByRecursion (λ e. key e.1 ≢ k) cs → IsChainOf key ls cs chain k
-empty_chain key ls cs chain k empty none = subst (IsChain (λ n. lookup (nat_eq n) ls) chain) (sym (no_numbers key k cs none)) (empty (λ n. lookup (nat_eq n) ls))
