@@ -39,8 +39,6 @@ impl UserTest for UserLimits {
     ghost passes_may = { λ test used size may. may };
 
     fn room(&self, used: Resource) -> Option<Resource> {
-        // A smaller room has a smaller limit, so the second step may leave less than the first.
-        let room = self.limits.left(&used, &self.room)?;
-        self.limits.left(&used, &room)
+        self.limits.left(&used, &self.room)
     }
 }

@@ -74,7 +74,6 @@ impl Limits {
     /// How much of a room is left to the requests of a user that uses so much. What is larger does not keep the limit.
     pub(crate) fn left(&self, used: &Resource, room: &Resource) -> Option<Resource>
         requires { IsAsk room.now }
-        ensures ask { IfSome result IsAsk }
         ensures some { IfSome result (λ left. (size : Amount) → KeepsWithin self.now used.now room.now size
             → IsTrue (fits_in size left)) }
         ensures none { IfNone result ((size : Amount) → ¬ (KeepsWithin self.now used.now room.now size)) }
