@@ -15,6 +15,7 @@ use crate::matching::{are_calls, is_one_for_each, mark_lists};
 use crate::receipts::Receipts;
 use crate::seats::Seat;
 use std::alloc::Global;
+use std::sync::Arc;
 use thiserror::Error;
 use ynl_core::{Core, NoMemory};
 use ynl_journal::{Book, Start, replay_history};
@@ -102,7 +103,7 @@ pub fn close(
 /// Ends a live scheduler as `close` does, and for good: the events are replayed by the cluster that the journal began with, so
 /// there is no second one beside it, and the scheduler's own goes before. At a cause nothing comes back.
 ///
-/// It is one call of `close_events`: the contract of that ties the entries and the cause to the events of the book.
+/// It is one call of `close_start`, whose contract ties the entries and the cause to the book, as that of `close_book` does.
 pub fn close_for_good(
     alloc: Global,
     live: Live,
@@ -119,6 +120,20 @@ pub fn close_for_good(
     ensures cause { IfErr result (IsCauseFor live seats.now lists.now) }
 {
     let (start, book) = live.into_parts();
+    close_start(alloc, start, book, seats, lists)
+}
+
+/// The closed history of a book's events, where the receipts of all seats fit it, by the cluster of the start itself.
+fn close_start(
+    alloc: Global,
+    start: Arc<Start>,
+    book: Book,
+    seats: &[Seat],
+    lists: &[Receipts],
+) -> Result<Closed, Cause>
+    ensures closed { IfOk result (IsClosing start.value (events_in book.entries) seats.now lists.now) }
+    ensures cause { IfErr result (IsCause start.value (events_in book.entries) seats.now lists.now) }
+{
     let events = book.into_events();
     check_handed(events.len() as u64, seats, lists)?;
     let Ok(core) = Start::into_cluster(start, alloc) else {
@@ -127,7 +142,7 @@ pub fn close_for_good(
     close_events(alloc, core, &events, seats, lists)
 }
 
-/// The closed history of a book's events, where the receipts of all seats fit it; else the book as it is.
+/// The same by a second cluster like that of the start; at a cause the book comes back as it is.
 fn close_book(
     alloc: Global,
     start: &Start,
@@ -145,7 +160,7 @@ fn close_book(
     }
 }
 
-/// The same of its events alone, by a second cluster like that of the start.
+/// The same of its events alone.
 fn close_copy(
     alloc: Global,
     start: &Start,
