@@ -11,8 +11,8 @@ use std::thread::Threads;
 use std::{env, io};
 use ynl_tool::{
     BUILT_IN, Form, HashSeed, Job, JobTexts, Kind, SequentialKind, ToolFault, WordsFault, Workers,
-    execute_check, execute_live, execute_sequential, fault_of, parse_words, read_state_text,
-    read_text, tell,
+    execute_check, execute_live, execute_sequential, execute_unread, fault_of, parse_words,
+    read_state_text, read_text, tell,
 };
 
 fn main(rt: HostRuntime) -> ExitCode {
@@ -34,7 +34,10 @@ fn main(rt: HostRuntime) -> ExitCode {
 fn read_words(rt: &HostRuntime) -> Result<Vec<String>, ExitCode> {
     let args = match env::args(rt) {
         Ok(args) => args,
-        Err(error) if fault_of(&error) == ToolFault::NoMemory => return Err(out_of_memory(rt)),
+        Err(error) if fault_of(&error) == ToolFault::NoMemory => return Err(end_with(
+            rt,
+            ToolFault::NoMemory,
+        )),
         Err(_) => {
             let _told = eprintln!(rt; "ynl: an argument is no text");
             return Err(ExitCode::from(2));
@@ -42,7 +45,7 @@ fn read_words(rt: &HostRuntime) -> Result<Vec<String>, ExitCode> {
     };
     match args.collect(rt.alloc()) {
         Ok(words) => Ok(words),
-        Err(AllocError) => Err(out_of_memory(rt)),
+        Err(AllocError) => Err(end_with(rt, ToolFault::NoMemory)),
     }
 }
 
@@ -54,7 +57,7 @@ fn tell_words_fault(rt: &HostRuntime, fault: WordsFault) -> ExitCode {
         WordsFault::FromWithTenant => {
             eprintln!(rt; "ynl: --from and --tenant do not go together")
         }
-        WordsFault::NoMemory => return out_of_memory(rt),
+        WordsFault::NoMemory => return end_with(rt, ToolFault::NoMemory),
     };
     ExitCode::from(2)
 }
@@ -99,21 +102,31 @@ struct Inputs {
     reader: BufReader<StdinLock<'static>>,
 }
 
+/// What a job reads, or the status that it ends with where that cannot be had. The configuration is tested before the
+/// state, also where the state cannot be read.
 fn open_inputs(
     rt: &HostRuntime,
     config: Option<&str>,
     from: Option<&str>,
-) -> Result<Inputs, ToolFault> {
+) -> Result<Inputs, ExitCode> {
     let mut text = Vec::new(rt.alloc());
-    read_configuration(rt, config, &mut text)?;
-    let from = read_state(rt, from)?;
+    if let Err(fault) = read_configuration(rt, config, &mut text) {
+        return Err(end_with(rt, fault));
+    }
+    let from = match read_state(rt, from) {
+        Ok(from) => from,
+        Err(fault) => {
+            let status = execute_unread(rt.alloc(), &text, fault, &mut rt.stderr());
+            return Err(ExitCode::from(status));
+        }
+    };
     match BufReader::with_capacity(rt.alloc(), 65536, rt.reader()) {
         Ok(reader) => Ok(Inputs {
             config: text,
             from,
             reader,
         }),
-        Err(error) => Err(fault_of(&error)),
+        Err(error) => Err(end_with(rt, fault_of(&error))),
     }
 }
 
@@ -133,10 +146,9 @@ fn work(
     config: Option<&str>,
     from: Option<&str>,
 ) -> ExitCode {
-    let mut errors = rt.stderr();
     let mut inputs = match open_inputs(rt, config, from) {
         Ok(inputs) => inputs,
-        Err(fault) => return ExitCode::from(tell(&mut errors, fault)),
+        Err(status) => return status,
     };
     let texts = JobTexts {
         config: &inputs.config,
@@ -149,19 +161,24 @@ fn work(
         texts,
         &mut inputs.reader,
         &mut io::writer(rt),
-        &mut errors,
+        &mut rt.stderr(),
     );
     ExitCode::from(status)
 }
 
 /// Tells what the configuration says.
 fn check(rt: &HostRuntime, form: Form, config: Option<&str>) -> ExitCode {
-    let mut errors = rt.stderr();
     let mut text = Vec::new(rt.alloc());
     if let Err(fault) = read_configuration(rt, config, &mut text) {
-        return ExitCode::from(tell(&mut errors, fault));
+        return end_with(rt, fault);
     }
-    let status = execute_check(rt.alloc(), form, &text, &mut io::writer(rt), &mut errors);
+    let status = execute_check(
+        rt.alloc(),
+        form,
+        &text,
+        &mut io::writer(rt),
+        &mut rt.stderr(),
+    );
     ExitCode::from(status)
 }
 
@@ -175,10 +192,9 @@ fn work_live<T: Threads + Wait + Sync>(
     config: Option<&str>,
     from: Option<&str>,
 ) -> ExitCode {
-    let mut errors = rt.stderr();
     let mut inputs = match open_inputs(rt, config, from) {
         Ok(inputs) => inputs,
-        Err(fault) => return ExitCode::from(tell(&mut errors, fault)),
+        Err(status) => return status,
     };
     let texts = JobTexts {
         config: &inputs.config,
@@ -193,11 +209,11 @@ fn work_live<T: Threads + Wait + Sync>(
         texts,
         &mut inputs.reader,
         &mut io::writer(rt),
-        &mut errors,
+        &mut rt.stderr(),
     );
     ExitCode::from(status)
 }
 
-fn out_of_memory(rt: &HostRuntime) -> ExitCode {
-    ExitCode::from(tell(&mut rt.stderr(), ToolFault::NoMemory))
+fn end_with(rt: &HostRuntime, fault: ToolFault) -> ExitCode {
+    ExitCode::from(tell(&mut rt.stderr(), fault))
 }

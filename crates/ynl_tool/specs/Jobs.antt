@@ -111,6 +111,14 @@ EndsWithout refusal (Err fault) ended = (ended ≡ Ok (Err (refusal fault))) ⊎
 abbrev pub EndsWithoutConfig : List ℕ → Ending → Type 0
 EndsWithoutConfig text ended = EndsWithout (λ fault. Config fault) (config_of text) ended
 
+-- how a job ends whose state could not be read, under its configuration or the fault of that, which comes first; or memory was refused
+abbrev pub EndsUnreadUnder : ToolFault → Result Configured ConfigFault → Ending → Type 0
+EndsUnreadUnder fault (Ok c) ended = (ended ≡ Err fault) ⊎ (ended ≡ Err NoMemory)
+EndsUnreadUnder fault (Err bad) ended = (ended ≡ Ok (Err (Config bad))) ⊎ (ended ≡ Err NoMemory)
+
+abbrev pub EndsUnread : ToolFault → List ℕ → Ending → Type 0
+EndsUnread fault text ended = EndsUnreadUnder fault (config_of text) ended
+
 -- the job with what it needs; or, where there is none, it is not begun, for the fault of that
 abbrev pub DoesWith : {X F : Type 0} → Stream → Stream → (F → JobRefusal) → (X → Ending → Type 0) → Result X F → Ending → Type 0
 DoesWith reader writer refusal job (Ok x) ended = job x ended
@@ -230,5 +238,12 @@ DoesText reader writer job text ended = DoesWith reader writer (λ fault. Config
 pub record Executes (reader writer errors : Stream) (job : Doing) (text : List ℕ) (status : ℕ) : Type 0 where
   pub ended : Ending
   pub does : DoesText reader writer job text ended
+  pub told : Tells errors.before errors.after ended
+  pub tells : status ≡ status_by ended
+
+-- no job was begun, since its state could not be read, and the exit status and the error stream tell how it ended
+pub record ExecutesUnread (errors : Stream) (fault : ToolFault) (text : List ℕ) (status : ℕ) : Type 0 where
+  pub ended : Ending
+  pub does : EndsUnread fault text ended
   pub told : Tells errors.before errors.after ended
   pub tells : status ≡ status_by ended

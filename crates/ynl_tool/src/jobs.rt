@@ -6,7 +6,7 @@ ghost use Rattle.ynl_config.specs.Meaning.{config_of};
 ghost use Rattle.ynl_model.specs.Accepted.{is_accepted};
 ghost use Rattle.ynl_commands.specs.Input.{between};
 ghost use Rattle.ynl_commands.specs.Lines.{AppendsFront, AppendsPart};
-ghost use Rattle.ynl_tool.specs.Jobs.{error_line, config_line, place_text, refusal_line, state_line, status_by, status_of, tenancy, begins, AuditsEvidenceJob, AuditsJob, DoesSequentialJob, DoesText, EndsWithoutConfig, EndsWithoutState, Executes, ExplainsJob, HandsJob, LivesJob, RunsJob, SavesJob, Tells};
+ghost use Rattle.ynl_tool.specs.Jobs.{error_line, config_line, place_text, refusal_line, state_line, status_by, status_of, tenancy, begins, AuditsEvidenceJob, AuditsJob, DoesSequentialJob, DoesText, EndsUnread, EndsWithoutConfig, EndsWithoutState, Executes, ExecutesUnread, ExplainsJob, HandsJob, LivesJob, RunsJob, SavesJob, Tells};
 ghost use Rattle.ynl_tool.specs.Checking.{verdict_status, ExecutesCheck};
 
 use crate::checking::check_text;
@@ -449,6 +449,26 @@ pub fn execute_live<T: Threads + Wait + Sync, R: BufRead, W: Write, E: Write>(
     ensures { Executes (between (R.remaining reader.old) (R.remaining reader.new)) (between (W.contents writer.old) (W.contents writer.new)) (between (E.contents errors.old) (E.contents errors.new)) (LivesJob rounds (option_map (λ text. text.now) texts.entry.from)) texts.entry.config.now result }
 {
     let ended = do_live_text(rt, alloc, seed, workers, rounds, texts, reader, writer);
+    tell_ending(errors, ended)
+}
+
+/// How a job ends whose state could not be read.
+fn end_unread(alloc: Global, text: &[u8], fault: ToolFault) -> Ending
+    ensures { EndsUnread fault text.now result }
+{
+    match read_config(alloc, text) {
+        Ok(Ok(_config)) => Err(fault),
+        Ok(Err(fault)) => Ok(Err(JobRefusal::Config(fault))),
+        Err(_) => Err(ToolFault::NoMemory),
+    }
+}
+
+/// Tells the fault with which the text of a state could not be read, and gives the exit status, 3. The configuration is tested
+/// before the state: where its text means none, that is told, and the status is 1. No job is begun.
+pub fn execute_unread<E: Write>(alloc: Global, text: &[u8], fault: ToolFault, errors: &mut E) -> u8
+    ensures { ExecutesUnread (between (E.contents errors.old) (E.contents errors.new)) fault text.now result }
+{
+    let ended = end_unread(alloc, text, fault);
     tell_ending(errors, ended)
 }
 

@@ -3,7 +3,7 @@
 
 pub use checking::check_text;
 pub use config_text::{fault_of, read_state_text, read_text};
-pub use jobs::{JobTexts, execute_check, execute_live, execute_sequential, tell};
+pub use jobs::{JobTexts, execute_check, execute_live, execute_sequential, execute_unread, tell};
 pub use live::live_lines;
 pub use ynl_check::{Form, Verdict};
 pub use ynl_commands::{
