@@ -28,7 +28,18 @@ module _ {E : Type 0} (fault : E) (m v : ℕ) where
   by_test false None e h = refl
 
   pub size_from_new : (o : Option Resource) → SomeIff o (IsSize (amount m v)) (amount m v) → or_fault fault o ≡ size_or fault m v
+  unfolding size_or
   size_from_new o h = by_test (is_size m v) o refl h
+
+-- a size that is in range is read from its parts
+pub size_back : {E : Type 0} (fault : E) (size : Resource) → IsSize size → size_or fault size.memory size.vcores ≡ Ok size
+unfolding size_or
+size_back fault size h = ap (λ b. cond b (Ok size) (Err fault)) (is_size-from_IsSize size.memory size.vcores h)
+
+-- a number that is at most so large is read as it stands
+pub within_back : {E : Type 0} (fault : E) (most n : ℕ) → n ≤ most → within_or fault most n ≡ Ok n
+unfolding within_or
+within_back fault most n h = ap (λ b. cond b (Ok n) (Err fault)) (le-leb n most h)
 
 module _ {E : Type 0} (fault : E) (most n : ℕ) where
   share_by : (b : Bool) (o : Option ℕ) → leb n most ≡ b → SomeIff o (n ≤ most) n → or_fault fault o ≡ cond b (Ok n) (Err fault)
@@ -38,4 +49,5 @@ module _ {E : Type 0} (fault : E) (most n : ℕ) where
   share_by false None e h = refl
 
   pub within_from_new : (o : Option ℕ) → SomeIff o (n ≤ most) n → or_fault fault o ≡ within_or fault most n
+  unfolding within_or
   within_from_new o h = share_by (leb n most) o refl h

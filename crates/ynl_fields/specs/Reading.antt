@@ -9,7 +9,11 @@ use Rattle.serde_json.specs.Events.{members_len}
 use Rattle.ynl_resource.specs.declared.amounts.Resource.{Resource}
 use Rattle.ynl_resource.specs.Amounts.{amount}
 use Rattle.ynl_resource.specs.Ranges.{most_clock, most_memory, most_vcores}
+use Rattle.ynl_resource.specs.declared.names.Name.{Name}
+use Rattle.ynl_resource.specs.declared.labels.Label.{Label}
+use Rattle.ynl_resource.specs.declared.paths.Path.{Path}
 use Rattle.ynl_resource.specs.declared.ids.Id.{Id}
+use Rattle.ynl_resource.specs.Texts.{read_name, read_label, read_path, read_id}
 
 -- spaces, tabs and carriage returns alone: such a line is passed over
 abbrev pub is_blank : List ℕ → Bool
@@ -41,27 +45,40 @@ or_other e (Ok x) = Ok x
 or_other e (Err other) = Err e
 
 -- the string under a key, or else the fault
-abbrev pub text_or : {E : Type 0} → E → List ℕ → Data → Result (List ℕ) E
+unfoldable pub text_or : {E : Type 0} → E → List ℕ → Data → Result (List ℕ) E
 text_or e key d = or_fault e (option_and_then as_str (get key d))
 
 -- the whole number under a key, or else the fault
-abbrev pub number_or : {E : Type 0} → E → List ℕ → Data → Result ℕ E
+unfoldable pub number_or : {E : Type 0} → E → List ℕ → Data → Result ℕ E
 number_or e key d = or_fault e (option_and_then as_u64 (option_and_then as_number (get key d)))
 
 -- An object has each key once, so with as many members as keys, and each key found, it has just those keys.
-abbrev pub keys_or : {E : Type 0} → E → ℕ → Data → Result (Unit {0}) E
+unfoldable pub keys_or : {E : Type 0} → E → ℕ → Data → Result (Unit {0}) E
 keys_or e count d = or_fault e (option_and_then (λ ms. if members_len ms == count then Some tt else None) (as_object d))
+
+-- these are the name, label, path or id that a text spells, or else the fault
+unfoldable pub name_or : {E : Type 0} → E → List ℕ → Result Name E
+name_or e text = or_other e (read_name text)
+
+unfoldable pub label_or : {E : Type 0} → E → List ℕ → Result Label E
+label_or e text = or_other e (read_label text)
+
+unfoldable pub path_or : {E : Type 0} → E → List ℕ → Result Path E
+path_or e text = or_other e (read_path text)
+
+unfoldable pub id_or : {E : Type 0} → E → List ℕ → Result Id E
+id_or e text = or_other e (read_id text)
 
 -- whether a size is in range
 abbrev pub is_size : ℕ → ℕ → Bool
 is_size memory vcores = nat_le 1 memory && nat_le memory most_memory && nat_le 1 vcores && nat_le vcores most_vcores
 
 -- a size of so many MB and virtual cores, or else the fault
-abbrev pub size_or : {E : Type 0} → E → ℕ → ℕ → Result Resource E
+unfoldable pub size_or : {E : Type 0} → E → ℕ → ℕ → Result Resource E
 size_or e memory vcores = if is_size memory vcores then Ok (amount memory vcores) else Err e
 
 -- a number that is at most so large, or else the fault
-abbrev pub within_or : {E : Type 0} → E → ℕ → ℕ → Result ℕ E
+unfoldable pub within_or : {E : Type 0} → E → ℕ → ℕ → Result ℕ E
 within_or e most n = if nat_le n most then Ok n else Err e
 
 -- an id's number is in range

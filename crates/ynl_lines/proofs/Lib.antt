@@ -1,5 +1,4 @@
 pub mod RoundTrip
-pub mod Sizes
 pub mod Texts
 pub mod Lists
 pub mod ReplyTrip

@@ -18,11 +18,12 @@ use Rattle.ynl_model.specs.declared.replies.Reply.{Reply}
 use Rattle.ynl_model.specs.declared.replies.Reply.TheVariants.{Done, Refused, Placed, Proposed, Committed, Held, Usage}
 use Rattle.ynl_lines.specs.declared.faults.LineFault.{LineFault}
 use Rattle.ynl_lines.specs.declared.faults.LineFault.TheVariants as fault
-use Rattle.ynl_lines.specs.Reading.{or_name, or_fault, ◌>>=◌, text_at, number_at, keys_are, name_at, label_at, id_at, within, size_at, wanted_at, wanted_label_at, what_at, event_at, event_of_line, HasClock, HasPriority, IsInRange}
+use Rattle.ynl_fields.specs.Reading.{text_or, number_or, keys_or}
+use Rattle.ynl_lines.specs.Reading.{or_fault, ◌>>=◌, within, size_at, wanted_at, wanted_label_at, what_at, event_at, event_of_line, HasClock, HasPriority, IsInRange}
 use Rattle.ynl_lines.specs.ReadingReplies.{name_under, id_under, value_under, list_under, list_of, size_in, most_amount, amount_at, amount_under, what_in, placed_at, pending_at, each, alone, refused_at, placed_reply_at, proposed_at, committed_at, held_at, usage_reply_at, reply_kind_at, reply_at, unanswered, answer_at, placed_event_at, line_at, MayBeTold, HasPlacedNumbers, HasPendingNumbers, IsReplyInRange, IsEntryInRange, or_bad, line_of_text}
 use Rattle.ynl_lines.specs.Sound.{IsWanted, HasContainerParts, IsContainer, IsPending, IsEvent, IsReply}
 use Rattle.ynl_lines.specs.Writing.{amount_data, placed_by, placed_data, pending_data, reply_data, propose_data, event_data, event_text, line_object, line_data, line_text}
-use Rattle.ynl_lines.proofs.Sizes.{size_back, within_back}
+use Rattle.ynl_fields.proofs.Sizes.{size_back, within_back}
 use Rattle.ynl_fields.proofs.Names.{name_back, label_back, id_back}
 use Rattle.ynl_lines.proofs.RoundTrip.{proposal_back, event_back}
 use Rattle.ynl_lines.proofs.Texts.{flat_event, flat_line}
@@ -41,26 +42,26 @@ by_numbers p label priority =
     (within most_priority priority >>= λ priority. Ok (Asked label priority)) >>= λ what. size_at p.size.memory p.size.vcores >>= λ size. Ok (changed p what size)
 
 placed_back_by : (w : What) (p : Container) → HasContainerParts p → IsWanted w → HasClock p.id → HasPriority w → placed_at (placed_by w p) ≡ Ok (changed p w p.size)
-unfolding placed_at what_in name_under id_under size_in text_at number_at keys_are wanted_at wanted_label_at what_at name_at label_at id_at
+unfolding placed_at what_in name_under id_under size_in text_or number_or keys_or wanted_at wanted_label_at what_at
 placed_back_by Master p h l clock small =
-    λ i. or_name (name_back p.app h.3 i) >>= λ app. or_name (id_back p.id h.0 clock i) >>= λ id. or_name (name_back p.node h.1 i) >>= λ node. or_name (name_back p.tenant h.2 i) >>= λ tenant.
-    size_back p.size h.4 i >>= λ size. Ok (record { id = id; node = node; tenant = tenant; app = app; what = Master; size = size })
+    λ i. name_back fault.Name p.app h.3 i >>= λ app. id_back fault.Name p.id h.0 clock i >>= λ id. name_back fault.Name p.node h.1 i >>= λ node. name_back fault.Name p.tenant h.2 i >>= λ tenant.
+    size_back fault.Range p.size h.4 i >>= λ size. Ok (record { id = id; node = node; tenant = tenant; app = app; what = Master; size = size })
 placed_back_by (Asked label priority) p h l clock small =
     let named : placed_at (placed_by (Asked label priority) p) ≡ by_numbers p label priority =
-    λ i. ((or_name (label_back label l i) >>= λ label. Ok (Some (label, priority))) >>= what_at) >>= λ what. or_name (name_back p.app h.3 i) >>= λ app. or_name (id_back p.id h.0 clock i) >>= λ id.
-    or_name (name_back p.node h.1 i) >>= λ node. or_name (name_back p.tenant h.2 i) >>= λ tenant. size_at p.size.memory p.size.vcores >>= λ size.
+    λ i. ((label_back fault.Name label l i >>= λ label. Ok (Some (label, priority))) >>= what_at) >>= λ what. name_back fault.Name p.app h.3 i >>= λ app. id_back fault.Name p.id h.0 clock i >>= λ id.
+    name_back fault.Name p.node h.1 i >>= λ node. name_back fault.Name p.tenant h.2 i >>= λ tenant. size_at p.size.memory p.size.vcores >>= λ size.
     Ok (record { id = id; node = node; tenant = tenant; app = app; what = what; size = size }) in
     let numbered : by_numbers p label priority ≡ Ok (changed p (Asked label priority) p.size) =
-    λ i. (within_back most_priority priority small i >>= λ priority. Ok (Asked label priority)) >>= λ what. size_back p.size h.4 i >>= λ size. Ok (changed p what size) in
+    λ i. (within_back fault.Range most_priority priority small i >>= λ priority. Ok (Asked label priority)) >>= λ what. size_back fault.Range p.size h.4 i >>= λ size. Ok (changed p what size) in
     named ∙ numbered
 
 placed_back : (p : Container) → IsContainer p → HasPlacedNumbers p → placed_at (placed_data p) ≡ Ok p
 placed_back p h n = placed_back_by p.what p h.0 h.1 n.0 n.1
 
 pending_back : (p : Pending) → IsPending p → HasPendingNumbers p → pending_at (pending_data p) ≡ Ok p
-unfolding pending_at size_in number_at keys_are
+unfolding pending_at size_in number_or keys_or
 pending_back p h n =
-    λ i. within_back most_count p.count n.1 i >>= λ count. within_back most_priority p.priority n.0 i >>= λ priority. size_back p.size h i >>= λ size.
+    λ i. within_back fault.Range most_count p.count n.1 i >>= λ count. within_back fault.Range most_priority p.priority n.0 i >>= λ priority. size_back fault.Range p.size h i >>= λ size.
     Ok (record { priority = priority; count = count; size = size })
 
 -- ---- lists
@@ -80,11 +81,11 @@ each_pending_back (p ∷ ps) h n =
 -- ---- replies
 
 amount_back : (a : Resource) → IsSmall a → amount_at (amount_data a) ≡ Ok a
-unfolding amount_at number_at keys_are
-amount_back a h = λ i. within_back most_amount a.memory h.0 i >>= λ memory. within_back most_amount a.vcores h.1 i >>= λ vcores. Ok (amount memory vcores)
+unfolding amount_at number_or keys_or
+amount_back a h = λ i. within_back fault.Range most_amount a.memory h.0 i >>= λ memory. within_back fault.Range most_amount a.vcores h.1 i >>= λ vcores. Ok (amount memory vcores)
 
 reply_back : (r : Reply) → IsReply r → IsReplyInRange r → reply_at (reply_data r) ≡ Ok r
-unfolding reply_at reply_kind_at text_at number_at keys_are value_under list_under list_of alone refused_at placed_reply_at proposed_at committed_at held_at usage_reply_at amount_under
+unfolding reply_at reply_kind_at text_or number_or keys_or value_under list_under list_of alone refused_at placed_reply_at proposed_at committed_at held_at usage_reply_at amount_under
 reply_back Done h n = refl
 reply_back (Refused r) h n = λ i. or_fault fault.Field (refusal_back r i) >>= λ r. Ok (Refused r)
 reply_back (Placed ps) h n = λ i. each_placed_back ps h n i >>= λ ps. Ok (Placed ps)
@@ -101,7 +102,7 @@ reply_back (Usage used guaranteed maximum masters guests) h n =
 
 line_back : (place : ℕ) (e : Event) (o : Option Reply) → MayBeTold e o → IsEvent e → IsInRange e → IfSome o IsReply → IfSome o IsReplyInRange
     → line_at (line_object place (event_data e) (option_map reply_data o)) ≡ Ok (place, record { event = e; reply = o })
-unfolding line_at placed_event_at answer_at text_at number_at keys_are value_under
+unfolding line_at placed_event_at answer_at text_or number_or keys_or value_under
 line_back place e (Some r) may h n sound numbers =
     λ i. ◌>>=◌ {A = Event} {B = ℕ × Event} (event_back e h n i) (λ e. Ok (place, e)) >>= λ placed. (reply_back r sound numbers i >>= λ r. Ok (Some r)) >>= λ reply.
     Ok (placed.0, record { event = placed.1; reply = reply })

@@ -10,7 +10,6 @@ use Rattle.ynl_resource.specs.declared.names.Name.{Name}
 use Rattle.ynl_resource.specs.declared.labels.Label.{Label}
 use Rattle.ynl_resource.specs.declared.paths.Path.{Path}
 use Rattle.ynl_resource.specs.declared.ids.Id.{Id}
-use Rattle.ynl_resource.specs.Texts.{read_name, read_label, read_path, read_id}
 use Rattle.ynl_model.specs.declared.events.Event.{Event}
 use Rattle.ynl_model.specs.declared.events.Event.TheVariants.{Register, Lost, Relabel, Heartbeat, Exited, Submit, Ask, Release, Finish, Stop, Start, Poll, Usage, Propose, Commit, Maximum}
 use Rattle.ynl_model.specs.declared.proposals.What.{What}
@@ -20,46 +19,42 @@ use Rattle.ynl_lines.specs.declared.read.Kind.{Kind}
 use Rattle.ynl_lines.specs.declared.read.Kind.TheVariants as kind
 use Rattle.ynl_lines.specs.declared.faults.LineFault.{LineFault}
 use Rattle.ynl_lines.specs.declared.faults.LineFault.TheVariants as fault
-use Rattle.ynl_fields.specs.Reading.{reading, ◌>>=◌, or_fault, or_other, text_or, number_or, keys_or, size_or, within_or, HasClock}
+use Rattle.ynl_fields.specs.Reading.{reading, ◌>>=◌, or_fault, text_or, number_or, keys_or, name_or, label_or, path_or, id_or, size_or, within_or, HasClock}
 pub use Rattle.ynl_fields.specs.Reading.{reading, ◌>>=◌, Gives, or_fault, HasClock}
-
--- the fault `name`, where a text is not what was wanted
-abbrev pub or_name : {A E : Type 0} → Result A E → Result A LineFault
-or_name r = or_other fault.Name r
 
 -- ---- the fields
 
 -- the string under a key, or else the fault `field`
-unfoldable pub text_at : List ℕ → Data → Result (List ℕ) LineFault
+abbrev pub text_at : List ℕ → Data → Result (List ℕ) LineFault
 text_at key d = text_or fault.Field key d
 
 -- the whole number under a key, or else the fault `field`
-unfoldable pub number_at : List ℕ → Data → Result ℕ LineFault
+abbrev pub number_at : List ℕ → Data → Result ℕ LineFault
 number_at key d = number_or fault.Field key d
 
 -- An object has each key once, so with as many members as keys, and each key found, it has just those keys.
-unfoldable pub keys_are : ℕ → Data → Result (Unit {0}) LineFault
+abbrev pub keys_are : ℕ → Data → Result (Unit {0}) LineFault
 keys_are count d = keys_or fault.Field count d
 
 -- these are the name, label, path or id that a text spells, or else the fault `name`
-unfoldable pub name_at : List ℕ → Result Name LineFault
-name_at text = or_name (read_name text)
+abbrev pub name_at : List ℕ → Result Name LineFault
+name_at text = name_or fault.Name text
 
-unfoldable pub label_at : List ℕ → Result Label LineFault
-label_at text = or_name (read_label text)
+abbrev pub label_at : List ℕ → Result Label LineFault
+label_at text = label_or fault.Name text
 
-unfoldable pub path_at : List ℕ → Result Path LineFault
-path_at text = or_name (read_path text)
+abbrev pub path_at : List ℕ → Result Path LineFault
+path_at text = path_or fault.Name text
 
-unfoldable pub id_at : List ℕ → Result Id LineFault
-id_at text = or_name (read_id text)
+abbrev pub id_at : List ℕ → Result Id LineFault
+id_at text = id_or fault.Name text
 
 -- a size of so many MB and virtual cores, or else the fault `range`
-unfoldable pub size_at : ℕ → ℕ → Result Resource LineFault
+abbrev pub size_at : ℕ → ℕ → Result Resource LineFault
 size_at memory vcores = size_or fault.Range memory vcores
 
--- a number that is at most so large
-unfoldable pub within : ℕ → ℕ → Result ℕ LineFault
+-- a number that is at most so large, or else the fault `range`
+abbrev pub within : ℕ → ℕ → Result ℕ LineFault
 within most n = within_or fault.Range most n
 
 -- ---- the events: first all fields, then all names, then the range

@@ -6,7 +6,6 @@ ghost use Rattle.ynl_resource.specs.Amounts.{IsSize, IsSmall};
 ghost use Rattle.ynl_lines.specs.Reading.{HasPriority, HasProposalNumbers};
 ghost use Rattle.ynl_lines.specs.ReadingReplies.{HasPendingNumbers, HasPlacedNumbers, IsReplyInRange};
 
-use crate::keys::within;
 use crate::read_replies::MOST_AMOUNT;
 use std::alloc::{AllocError, Global};
 use ynl_fields::Cursor;
@@ -165,8 +164,7 @@ pub fn cut_proposal(line: &mut Cursor<'_>) -> Option<Proposal>
     let memory = line.number(b",\"memory\":")?;
     let node = line.name(b",\"node\":\"")?;
     let what = wanted(line, label)?;
-    let number = line.number(b",\"stamp\":")?;
-    let stamp = within(MOST_CLOCK, number).ok()?;
+    let stamp = line.within(b",\"stamp\":", MOST_CLOCK)?;
     let tenant = line.name(b",\"tenant\":\"")?;
     let size = line.size(b",\"vcores\":", memory)?;
     if !ends_as(line, &what) {
@@ -188,10 +186,8 @@ fn cut_amount(line: &mut Cursor<'_>, front: &[u8]) -> Option<Resource>
     if !line.skips(front) {
         return None;
     }
-    let number = line.number(b"{\"memory\":")?;
-    let memory = within(MOST_AMOUNT, number).ok()?;
-    let number = line.number(b",\"vcores\":")?;
-    let vcores = within(MOST_AMOUNT, number).ok()?;
+    let memory = line.within(b"{\"memory\":", MOST_AMOUNT)?;
+    let vcores = line.within(b",\"vcores\":", MOST_AMOUNT)?;
     if !line.skips(b"}") {
         return None;
     }

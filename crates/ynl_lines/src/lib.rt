@@ -14,7 +14,6 @@ mod compact;
 mod compact_events;
 mod compact_replies;
 mod faults;
-mod keys;
 mod read;
 mod read_applications;
 mod read_containers;

@@ -8,10 +8,9 @@ ghost use Rattle.ynl_lines.specs.Reading.{or_fault, Gives, IsRanged};
 ghost use Rattle.ynl_lines.specs.Reading as spec;
 
 use crate::faults::LineFault;
-use crate::keys::{
-    id_at, keys_are, label_at, name_at, number_at, path_at, size_at, text_at, within_small,
+use ynl_fields::{
+    Fields, id_at, keys_are, label_at, name_at, number_at, path_at, size_at, text_at, within_small,
 };
-use ynl_fields::Fields;
 use ynl_model::Event;
 use ynl_resource::{Label, MOST_COUNT};
 
@@ -32,11 +31,11 @@ fn label_text_at<'v>(event: &Fields<'v, '_>) -> Result<Option<&'v str>, LineFaul
 {
     match event.get("label") {
         None => {
-            keys_are(event, 6)?;
+            keys_are(event, 6, LineFault::Field)?;
             Ok(None)
         }
         Some(label) => {
-            keys_are(event, 7)?;
+            keys_are(event, 7, LineFault::Field)?;
             label_text_of(&label)
         }
     }
@@ -49,7 +48,7 @@ fn optional_label_at(text: Option<&str>) -> Result<Option<Label>, LineFault>
     match text {
         None => Ok(None),
         Some(text) => {
-            let label = label_at(text)?;
+            let label = label_at(text, LineFault::Name)?;
             Ok(Some(label))
         }
     }
@@ -62,11 +61,11 @@ pub fn submit_at(event: &Fields<'_, '_>, into: &mut Event) -> Result<(), LineFau
     ensures ranged { OnOk result (IsRanged into.new) }
 {
     let label = label_text_at(event)?;
-    let app = text_at(event, "app")?;
-    let memory = number_at(event, "memory")?;
-    let queue = text_at(event, "queue")?;
-    let user = text_at(event, "user")?;
-    let vcores = number_at(event, "vcores")?;
+    let app = text_at(event, "app", LineFault::Field)?;
+    let memory = number_at(event, "memory", LineFault::Field)?;
+    let queue = text_at(event, "queue", LineFault::Field)?;
+    let user = text_at(event, "user", LineFault::Field)?;
+    let vcores = number_at(event, "vcores", LineFault::Field)?;
     submit_of(app, label, memory, queue, user, vcores, into)
 }
 
@@ -83,11 +82,11 @@ fn submit_of(
     ensures event { Gives (λ _. into.new) result (spec.submit_of app.now (option_map (λ s. s.now) label.entry) memory queue.now user.now vcores) }
     ensures ranged { OnOk result (IsRanged into.new) }
 {
-    let app = name_at(app)?;
+    let app = name_at(app, LineFault::Name)?;
     let label = optional_label_at(label)?;
-    let queue = path_at(queue)?;
-    let user = name_at(user)?;
-    let master = size_at(memory, vcores)?;
+    let queue = path_at(queue, LineFault::Name)?;
+    let user = name_at(user, LineFault::Name)?;
+    let master = size_at(memory, vcores, LineFault::Range)?;
     *into = Event::Submit {
         queue,
         app,
@@ -104,14 +103,14 @@ pub fn ask_at(event: &Fields<'_, '_>, into: &mut Event) -> Result<(), LineFault>
     ensures event { Gives (λ _. into.new) result (spec.ask_at (data_at event.now.stands)) }
     ensures ranged { OnOk result (IsRanged into.new) }
 {
-    keys_are(event, 8)?;
-    let app = text_at(event, "app")?;
-    let count = number_at(event, "count")?;
-    let label = text_at(event, "label")?;
-    let memory = number_at(event, "memory")?;
-    let priority = number_at(event, "priority")?;
-    let tenant = text_at(event, "tenant")?;
-    let vcores = number_at(event, "vcores")?;
+    keys_are(event, 8, LineFault::Field)?;
+    let app = text_at(event, "app", LineFault::Field)?;
+    let count = number_at(event, "count", LineFault::Field)?;
+    let label = text_at(event, "label", LineFault::Field)?;
+    let memory = number_at(event, "memory", LineFault::Field)?;
+    let priority = number_at(event, "priority", LineFault::Field)?;
+    let tenant = text_at(event, "tenant", LineFault::Field)?;
+    let vcores = number_at(event, "vcores", LineFault::Field)?;
     ask_of(app, count, label, memory, priority, tenant, vcores, into)
 }
 
@@ -129,12 +128,12 @@ fn ask_of(
     ensures event { Gives (λ _. into.new) result (spec.ask_of app.now count label.now memory priority tenant.now vcores) }
     ensures ranged { OnOk result (IsRanged into.new) }
 {
-    let app = name_at(app)?;
-    let label = label_at(label)?;
-    let tenant = name_at(tenant)?;
-    let count = within_small(MOST_COUNT, count)?;
-    let priority = within_small(u32::MAX, priority)?;
-    let size = size_at(memory, vcores)?;
+    let app = name_at(app, LineFault::Name)?;
+    let label = label_at(label, LineFault::Name)?;
+    let tenant = name_at(tenant, LineFault::Name)?;
+    let count = within_small(MOST_COUNT, count, LineFault::Range)?;
+    let priority = within_small(u32::MAX, priority, LineFault::Range)?;
+    let size = size_at(memory, vcores, LineFault::Range)?;
     *into = Event::Ask {
         tenant,
         app,
@@ -152,11 +151,11 @@ pub fn release_at(event: &Fields<'_, '_>, into: &mut Event) -> Result<(), LineFa
     ensures event { Gives (λ _. into.new) result (spec.release_at (data_at event.now.stands)) }
     ensures ranged { OnOk result (IsRanged into.new) }
 {
-    keys_are(event, 3)?;
-    let id = text_at(event, "id")?;
-    let tenant = text_at(event, "tenant")?;
-    let id = id_at(id)?;
-    let tenant = name_at(tenant)?;
+    keys_are(event, 3, LineFault::Field)?;
+    let id = text_at(event, "id", LineFault::Field)?;
+    let tenant = text_at(event, "tenant", LineFault::Field)?;
+    let id = id_at(id, LineFault::Name)?;
+    let tenant = name_at(tenant, LineFault::Name)?;
     *into = Event::Release { tenant, id };
     Ok(())
 }
@@ -167,11 +166,11 @@ pub fn finish_at(event: &Fields<'_, '_>, into: &mut Event) -> Result<(), LineFau
     ensures event { Gives (λ _. into.new) result (spec.finish_at (data_at event.now.stands)) }
     ensures ranged { OnOk result (IsRanged into.new) }
 {
-    keys_are(event, 3)?;
-    let app = text_at(event, "app")?;
-    let tenant = text_at(event, "tenant")?;
-    let app = name_at(app)?;
-    let tenant = name_at(tenant)?;
+    keys_are(event, 3, LineFault::Field)?;
+    let app = text_at(event, "app", LineFault::Field)?;
+    let tenant = text_at(event, "tenant", LineFault::Field)?;
+    let app = name_at(app, LineFault::Name)?;
+    let tenant = name_at(tenant, LineFault::Name)?;
     *into = Event::Finish { tenant, app };
     Ok(())
 }
@@ -182,13 +181,13 @@ pub fn poll_at(event: &Fields<'_, '_>, into: &mut Event) -> Result<(), LineFault
     ensures event { Gives (λ _. into.new) result (spec.poll_at (data_at event.now.stands)) }
     ensures ranged { OnOk result (IsRanged into.new) }
 {
-    keys_are(event, 4)?;
-    let app = text_at(event, "app")?;
-    let label = text_at(event, "label")?;
-    let tenant = text_at(event, "tenant")?;
-    let app = name_at(app)?;
-    let label = label_at(label)?;
-    let tenant = name_at(tenant)?;
+    keys_are(event, 4, LineFault::Field)?;
+    let app = text_at(event, "app", LineFault::Field)?;
+    let label = text_at(event, "label", LineFault::Field)?;
+    let tenant = text_at(event, "tenant", LineFault::Field)?;
+    let app = name_at(app, LineFault::Name)?;
+    let label = label_at(label, LineFault::Name)?;
+    let tenant = name_at(tenant, LineFault::Name)?;
     *into = Event::Poll { tenant, app, label };
     Ok(())
 }

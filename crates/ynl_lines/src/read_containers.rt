@@ -6,11 +6,10 @@ ghost use Rattle.ynl_fields.specs.Trees.{data_at};
 ghost use Rattle.ynl_lines.specs.ReadingReplies as spec;
 
 use crate::faults::LineFault;
-use crate::keys::{id_at, keys_are, name_at, number_at, size_at, text_at, within_small};
 use crate::read_proposals::{wanted_at, wanted_label_at, what_at};
 use serde_json::Value;
 use std::alloc::{AllocError, Global};
-use ynl_fields::Fields;
+use ynl_fields::{Fields, id_at, keys_are, name_at, number_at, size_at, text_at, within_small};
 use ynl_model::{Items, Pending, Placed, What};
 use ynl_resource::{Id, MOST_COUNT, Name, Size};
 
@@ -19,8 +18,8 @@ use ynl_resource::{Id, MOST_COUNT, Name, Size};
 fn name_under(object: &Fields<'_, '_>, key: &str) -> Result<Name, LineFault>
     ensures { result ≡ spec.name_under key.now (data_at object.now.stands) }
 {
-    let text = text_at(object, key)?;
-    name_at(text)
+    let text = text_at(object, key, LineFault::Field)?;
+    name_at(text, LineFault::Name)
 }
 
 /// The id that is under a key.
@@ -28,8 +27,8 @@ fn name_under(object: &Fields<'_, '_>, key: &str) -> Result<Name, LineFault>
 fn id_under(object: &Fields<'_, '_>, key: &str) -> Result<Id, LineFault>
     ensures { result ≡ spec.id_under key.now (data_at object.now.stands) }
 {
-    let text = text_at(object, key)?;
-    id_at(text)
+    let text = text_at(object, key, LineFault::Field)?;
+    id_at(text, LineFault::Name)
 }
 
 /// The size whose memory (in MB) and virtual cores an object tells.
@@ -37,9 +36,9 @@ fn id_under(object: &Fields<'_, '_>, key: &str) -> Result<Id, LineFault>
 fn size_in(object: &Fields<'_, '_>) -> Result<Size, LineFault>
     ensures { result ≡ spec.size_in (data_at object.now.stands) }
 {
-    let memory = number_at(object, "memory")?;
-    let vcores = number_at(object, "vcores")?;
-    size_at(memory, vcores)
+    let memory = number_at(object, "memory", LineFault::Field)?;
+    let vcores = number_at(object, "vcores", LineFault::Field)?;
+    size_at(memory, vcores, LineFault::Range)
 }
 
 /// What a container is for.
@@ -78,11 +77,11 @@ pub fn placed_at(object: &Fields<'_, '_>) -> Result<Placed, LineFault>
 fn pending_at(object: &Fields<'_, '_>) -> Result<Pending, LineFault>
     ensures { result ≡ spec.pending_at (data_at object.now.stands) }
 {
-    keys_are(object, 4)?;
-    let count = number_at(object, "count")?;
-    let priority = number_at(object, "priority")?;
-    let count = within_small(MOST_COUNT, count)?;
-    let priority = within_small(u32::MAX, priority)?;
+    keys_are(object, 4, LineFault::Field)?;
+    let count = number_at(object, "count", LineFault::Field)?;
+    let priority = number_at(object, "priority", LineFault::Field)?;
+    let count = within_small(MOST_COUNT, count, LineFault::Range)?;
+    let priority = within_small(u32::MAX, priority, LineFault::Range)?;
     let size = size_in(object)?;
     Ok(Pending {
         priority,

@@ -9,13 +9,12 @@ ghost use Rattle.ynl_lines.specs.ReadingReplies as spec;
 use crate::compact_events::cut_event;
 use crate::compact_replies::cut_reply;
 use crate::faults::{BadLine, LineFault};
-use crate::keys::{keys_are, number_at};
 use crate::read::{any_event, event_at};
 use crate::read_replies::{reply_at, value_under};
 use crate::write::put_line;
 use std::alloc::{AllocError, Global};
 use std::marker::Model;
-use ynl_fields::{Cursor, Fields, parse};
+use ynl_fields::{Cursor, Fields, keys_are, number_at, parse};
 use ynl_model::{Entry, Event, Reply};
 
 /// The place of a line, and its event.
@@ -24,7 +23,7 @@ fn placed_event_at(line: &Fields<'_, '_>) -> Result<(u64, Event), LineFault>
     ensures event { result ≡ spec.placed_event_at (data_at line.now.stands) }
     ensures ranged { IfOk result (λ read. IsRanged read.1) }
 {
-    let place = number_at(line, "place")?;
+    let place = number_at(line, "place", LineFault::Field)?;
     let value = value_under(line, "event")?;
     let mut event = any_event();
     event_at(&value, &mut event)?;
@@ -38,7 +37,7 @@ fn unanswered(line: &Fields<'_, '_>, event: &Event) -> Result<Option<Reply>, Lin
 {
     match event {
         Event::Propose { .. } => {
-            keys_are(line, 2)?;
+            keys_are(line, 2, LineFault::Field)?;
             Ok(None)
         }
         _ => Err(LineFault::Field),
@@ -54,7 +53,7 @@ fn answered(
     ensures reply { IfOk result (λ read. read ≡ spec.answered (data_at reply.now.stands) (data_at line.now.stands)) }
     ensures some { IfOk result (λ read. IfOk read (λ reply. IsSome reply)) }
 {
-    if let Err(fault) = keys_are(line, 3) {
+    if let Err(fault) = keys_are(line, 3, LineFault::Field) {
         return Ok(Err(fault));
     }
     match reply_at(alloc, reply)? {

@@ -6,8 +6,7 @@ ghost use Rattle.ynl_lines.specs.Reading.{Gives, IsRanged};
 ghost use Rattle.ynl_lines.specs.Reading as spec;
 
 use crate::faults::LineFault;
-use crate::keys::{id_at, keys_are, label_at, name_at, number_at, size_at, text_at};
-use ynl_fields::Fields;
+use ynl_fields::{Fields, id_at, keys_are, label_at, name_at, number_at, size_at, text_at};
 use ynl_model::Event;
 use ynl_resource::Name;
 
@@ -17,14 +16,14 @@ pub fn register_at(event: &Fields<'_, '_>, into: &mut Event) -> Result<(), LineF
     ensures event { Gives (λ _. into.new) result (spec.register_at (data_at event.now.stands)) }
     ensures ranged { OnOk result (IsRanged into.new) }
 {
-    keys_are(event, 5)?;
-    let label = text_at(event, "label")?;
-    let memory = number_at(event, "memory")?;
-    let node = text_at(event, "node")?;
-    let vcores = number_at(event, "vcores")?;
-    let label = label_at(label)?;
-    let node = name_at(node)?;
-    let size = size_at(memory, vcores)?;
+    keys_are(event, 5, LineFault::Field)?;
+    let label = text_at(event, "label", LineFault::Field)?;
+    let memory = number_at(event, "memory", LineFault::Field)?;
+    let node = text_at(event, "node", LineFault::Field)?;
+    let vcores = number_at(event, "vcores", LineFault::Field)?;
+    let label = label_at(label, LineFault::Name)?;
+    let node = name_at(node, LineFault::Name)?;
+    let size = size_at(memory, vcores, LineFault::Range)?;
     *into = Event::Register { node, label, size };
     Ok(())
 }
@@ -34,9 +33,9 @@ pub fn register_at(event: &Fields<'_, '_>, into: &mut Event) -> Result<(), LineF
 pub fn node_at(event: &Fields<'_, '_>) -> Result<Name, LineFault>
     ensures { result ≡ spec.node_at (data_at event.now.stands) }
 {
-    keys_are(event, 2)?;
-    let node = text_at(event, "node")?;
-    name_at(node)
+    keys_are(event, 2, LineFault::Field)?;
+    let node = text_at(event, "node", LineFault::Field)?;
+    name_at(node, LineFault::Name)
 }
 
 /// `lost`: a node is lost.
@@ -56,11 +55,11 @@ pub fn relabel_at(event: &Fields<'_, '_>, into: &mut Event) -> Result<(), LineFa
     ensures event { Gives (λ _. into.new) result (spec.relabel_at (data_at event.now.stands)) }
     ensures ranged { OnOk result (IsRanged into.new) }
 {
-    keys_are(event, 3)?;
-    let label = text_at(event, "label")?;
-    let node = text_at(event, "node")?;
-    let label = label_at(label)?;
-    let node = name_at(node)?;
+    keys_are(event, 3, LineFault::Field)?;
+    let label = text_at(event, "label", LineFault::Field)?;
+    let node = text_at(event, "node", LineFault::Field)?;
+    let label = label_at(label, LineFault::Name)?;
+    let node = name_at(node, LineFault::Name)?;
     *into = Event::Relabel { node, label };
     Ok(())
 }
@@ -82,11 +81,11 @@ pub fn exited_at(event: &Fields<'_, '_>, into: &mut Event) -> Result<(), LineFau
     ensures event { Gives (λ _. into.new) result (spec.exited_at (data_at event.now.stands)) }
     ensures ranged { OnOk result (IsRanged into.new) }
 {
-    keys_are(event, 3)?;
-    let id = text_at(event, "id")?;
-    let node = text_at(event, "node")?;
-    let id = id_at(id)?;
-    let node = name_at(node)?;
+    keys_are(event, 3, LineFault::Field)?;
+    let id = text_at(event, "id", LineFault::Field)?;
+    let node = text_at(event, "node", LineFault::Field)?;
+    let id = id_at(id, LineFault::Name)?;
+    let node = name_at(node, LineFault::Name)?;
     *into = Event::Exited { node, id };
     Ok(())
 }

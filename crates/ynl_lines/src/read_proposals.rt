@@ -7,9 +7,10 @@ ghost use Rattle.ynl_lines.specs.Reading.{Gives, HasPriority, HasProposalNumbers
 ghost use Rattle.ynl_lines.specs.Reading as spec;
 
 use crate::faults::LineFault;
-use crate::keys::{keys_are, label_at, name_at, number_at, size_at, text_at, within, within_small};
 use crate::read_nodes::node_at;
-use ynl_fields::Fields;
+use ynl_fields::{
+    Fields, keys_are, label_at, name_at, number_at, size_at, text_at, within, within_small,
+};
 use ynl_model::{Event, Proposal, What};
 use ynl_resource::{Label, MOST_CLOCK};
 
@@ -28,9 +29,9 @@ pub fn propose_at(event: &Fields<'_, '_>, into: &mut Event) -> Result<(), LineFa
 fn asked_at<'v>(proposal: &Fields<'v, '_>) -> Result<Option<(&'v str, u64)>, LineFault>
     ensures { Gives (λ o. option_map (λ wanted. (wanted.0.now, wanted.1)) o) result (spec.asked_at (data_at proposal.now.stands)) }
 {
-    keys_are(proposal, 9)?;
-    let label = text_at(proposal, "label")?;
-    let priority = number_at(proposal, "priority")?;
+    keys_are(proposal, 9, LineFault::Field)?;
+    let label = text_at(proposal, "label", LineFault::Field)?;
+    let priority = number_at(proposal, "priority", LineFault::Field)?;
     Ok(Some((label, priority)))
 }
 
@@ -39,7 +40,7 @@ fn wanted_by<'v>(what: &str, proposal: &Fields<'v, '_>) -> Result<Option<(&'v st
     ensures { Gives (λ o. option_map (λ wanted. (wanted.0.now, wanted.1)) o) result (spec.wanted_by what.now (data_at proposal.now.stands)) }
 {
     if what == "master" {
-        keys_are(proposal, 7)?;
+        keys_are(proposal, 7, LineFault::Field)?;
         Ok(None)
     } else if what == "ask" {
         asked_at(proposal)
@@ -53,7 +54,7 @@ fn wanted_by<'v>(what: &str, proposal: &Fields<'v, '_>) -> Result<Option<(&'v st
 pub fn wanted_at<'v>(proposal: &Fields<'v, '_>) -> Result<Option<(&'v str, u64)>, LineFault>
     ensures { Gives (λ o. option_map (λ wanted. (wanted.0.now, wanted.1)) o) result (spec.wanted_at (data_at proposal.now.stands)) }
 {
-    let what = text_at(proposal, "what")?;
+    let what = text_at(proposal, "what", LineFault::Field)?;
     wanted_by(what, proposal)
 }
 
@@ -65,7 +66,7 @@ pub fn wanted_label_at(wanted: Option<(&str, u64)>) -> Result<Option<(Label, u64
     match wanted {
         None => Ok(None),
         Some((text, priority)) => {
-            let label = label_at(text)?;
+            let label = label_at(text, LineFault::Name)?;
             Ok(Some((label, priority)))
         }
     }
@@ -80,7 +81,7 @@ pub fn what_at(wanted: Option<(Label, u64)>) -> Result<What, LineFault>
     match wanted {
         None => Ok(What::Master),
         Some((label, priority)) => {
-            let priority = within_small(u32::MAX, priority)?;
+            let priority = within_small(u32::MAX, priority, LineFault::Range)?;
             Ok(What::Ask(label, priority))
         }
     }
@@ -93,12 +94,12 @@ pub fn proposal_at(proposal: &Fields<'_, '_>) -> Result<Proposal, LineFault>
     ensures ranged { IfOk result (λ proposal. IsSize proposal.size × HasProposalNumbers proposal) }
 {
     let wanted = wanted_at(proposal)?;
-    let app = text_at(proposal, "app")?;
-    let memory = number_at(proposal, "memory")?;
-    let node = text_at(proposal, "node")?;
-    let stamp = number_at(proposal, "stamp")?;
-    let tenant = text_at(proposal, "tenant")?;
-    let vcores = number_at(proposal, "vcores")?;
+    let app = text_at(proposal, "app", LineFault::Field)?;
+    let memory = number_at(proposal, "memory", LineFault::Field)?;
+    let node = text_at(proposal, "node", LineFault::Field)?;
+    let stamp = number_at(proposal, "stamp", LineFault::Field)?;
+    let tenant = text_at(proposal, "tenant", LineFault::Field)?;
+    let vcores = number_at(proposal, "vcores", LineFault::Field)?;
     proposal_of(wanted, app, memory, node, stamp, tenant, vcores)
 }
 
@@ -115,13 +116,13 @@ fn proposal_of(
     ensures proposal { result ≡ spec.proposal_of (option_map (λ wanted. (wanted.0.now, wanted.1)) wanted.entry) app.now memory node.now stamp tenant.now vcores }
     ensures ranged { IfOk result (λ proposal. IsSize proposal.size × HasProposalNumbers proposal) }
 {
-    let app = name_at(app)?;
+    let app = name_at(app, LineFault::Name)?;
     let wanted = wanted_label_at(wanted)?;
-    let node = name_at(node)?;
-    let tenant = name_at(tenant)?;
+    let node = name_at(node, LineFault::Name)?;
+    let tenant = name_at(tenant, LineFault::Name)?;
     let what = what_at(wanted)?;
-    let stamp = within(MOST_CLOCK, stamp)?;
-    let size = size_at(memory, vcores)?;
+    let stamp = within(MOST_CLOCK, stamp, LineFault::Range)?;
+    let size = size_at(memory, vcores, LineFault::Range)?;
     Ok(Proposal {
         node,
         stamp,
@@ -138,7 +139,7 @@ pub fn commit_at(event: &Fields<'_, '_>, into: &mut Event) -> Result<(), LineFau
     ensures event { Gives (λ _. into.new) result (spec.commit_at (data_at event.now.stands)) }
     ensures ranged { OnOk result (IsRanged into.new) }
 {
-    keys_are(event, 2)?;
+    keys_are(event, 2, LineFault::Field)?;
     match event.get("proposal") {
         Some(value) => {
             let proposal = proposal_at(&value)?;

@@ -6,8 +6,7 @@ ghost use Rattle.ynl_lines.specs.Reading.{Gives, IsRanged};
 ghost use Rattle.ynl_lines.specs.Reading as spec;
 
 use crate::faults::LineFault;
-use crate::keys::{keys_are, label_at, number_at, path_at, share_at, text_at};
-use ynl_fields::Fields;
+use ynl_fields::{Fields, keys_are, label_at, number_at, path_at, share_at, text_at};
 use ynl_model::Event;
 use ynl_resource::Path;
 
@@ -16,9 +15,9 @@ use ynl_resource::Path;
 fn queue_at(event: &Fields<'_, '_>) -> Result<Path, LineFault>
     ensures { result ≡ spec.queue_at (data_at event.now.stands) }
 {
-    keys_are(event, 2)?;
-    let queue = text_at(event, "queue")?;
-    path_at(queue)
+    keys_are(event, 2, LineFault::Field)?;
+    let queue = text_at(event, "queue", LineFault::Field)?;
+    path_at(queue, LineFault::Name)
 }
 
 /// `stop`: a queue is stopped.
@@ -49,11 +48,11 @@ pub fn usage_at(event: &Fields<'_, '_>, into: &mut Event) -> Result<(), LineFaul
     ensures event { Gives (λ _. into.new) result (spec.usage_at (data_at event.now.stands)) }
     ensures ranged { OnOk result (IsRanged into.new) }
 {
-    keys_are(event, 3)?;
-    let label = text_at(event, "label")?;
-    let queue = text_at(event, "queue")?;
-    let label = label_at(label)?;
-    let queue = path_at(queue)?;
+    keys_are(event, 3, LineFault::Field)?;
+    let label = text_at(event, "label", LineFault::Field)?;
+    let queue = text_at(event, "queue", LineFault::Field)?;
+    let label = label_at(label, LineFault::Name)?;
+    let queue = path_at(queue, LineFault::Name)?;
     *into = Event::Usage { queue, label };
     Ok(())
 }
@@ -64,13 +63,13 @@ pub fn maximum_at(event: &Fields<'_, '_>, into: &mut Event) -> Result<(), LineFa
     ensures event { Gives (λ _. into.new) result (spec.maximum_at (data_at event.now.stands)) }
     ensures ranged { OnOk result (IsRanged into.new) }
 {
-    keys_are(event, 4)?;
-    let label = text_at(event, "label")?;
-    let maximum = number_at(event, "maximum")?;
-    let queue = text_at(event, "queue")?;
-    let label = label_at(label)?;
-    let queue = path_at(queue)?;
-    let maximum = share_at(maximum)?;
+    keys_are(event, 4, LineFault::Field)?;
+    let label = text_at(event, "label", LineFault::Field)?;
+    let maximum = number_at(event, "maximum", LineFault::Field)?;
+    let queue = text_at(event, "queue", LineFault::Field)?;
+    let label = label_at(label, LineFault::Name)?;
+    let queue = path_at(queue, LineFault::Name)?;
+    let maximum = share_at(maximum, LineFault::Range)?;
     *into = Event::Maximum {
         queue,
         label,

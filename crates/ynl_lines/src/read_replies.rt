@@ -7,12 +7,11 @@ ghost use Rattle.ynl_lines.specs.Reading.{Gives};
 ghost use Rattle.ynl_lines.specs.ReadingReplies as spec;
 
 use crate::faults::LineFault;
-use crate::keys::{keys_are, number_at, text_at, within};
 use crate::read_containers::{each_pending, each_placed, placed_at};
 use crate::read_proposals::proposal_at;
 use serde_json::Value;
 use std::alloc::{AllocError, Global};
-use ynl_fields::{Fields, find_word};
+use ynl_fields::{Fields, find_word, keys_are, number_at, text_at, within};
 use ynl_model::Reply;
 use ynl_resource::{Refusal, Resource};
 
@@ -52,7 +51,7 @@ fn reply_kind_of(word: &str) -> Option<ReplyKind>
 fn reply_kind_at(reply: &Fields<'_, '_>) -> Result<ReplyKind, LineFault>
     ensures { result ≡ spec.reply_kind_at (data_at reply.now.stands) }
 {
-    let word = text_at(reply, "reply")?;
+    let word = text_at(reply, "reply", LineFault::Field)?;
     reply_kind_of(word).ok_or(LineFault::Field)
 }
 
@@ -83,11 +82,11 @@ pub const MOST_AMOUNT: u64 = 562949953421312;
 fn amount_at(object: &Fields<'_, '_>) -> Result<Resource, LineFault>
     ensures { result ≡ spec.amount_at (data_at object.now.stands) }
 {
-    keys_are(object, 2)?;
-    let memory = number_at(object, "memory")?;
-    let vcores = number_at(object, "vcores")?;
-    let memory = within(MOST_AMOUNT, memory)?;
-    let vcores = within(MOST_AMOUNT, vcores)?;
+    keys_are(object, 2, LineFault::Field)?;
+    let memory = number_at(object, "memory", LineFault::Field)?;
+    let vcores = number_at(object, "vcores", LineFault::Field)?;
+    let memory = within(MOST_AMOUNT, memory, LineFault::Range)?;
+    let vcores = within(MOST_AMOUNT, vcores, LineFault::Range)?;
     Ok(Resource { memory, vcores })
 }
 
@@ -105,7 +104,7 @@ fn amount_under(object: &Fields<'_, '_>, key: &str) -> Result<Resource, LineFaul
 fn alone(object: &Fields<'_, '_>, reply: Reply) -> Result<Reply, LineFault>
     ensures { result ≡ spec.alone reply (data_at object.now.stands) }
 {
-    keys_are(object, 1)?;
+    keys_are(object, 1, LineFault::Field)?;
     Ok(reply)
 }
 
@@ -114,8 +113,8 @@ fn alone(object: &Fields<'_, '_>, reply: Reply) -> Result<Reply, LineFault>
 fn refused_at(object: &Fields<'_, '_>) -> Result<Reply, LineFault>
     ensures { result ≡ spec.refused_at (data_at object.now.stands) }
 {
-    keys_are(object, 2)?;
-    let word = text_at(object, "refused")?;
+    keys_are(object, 2, LineFault::Field)?;
+    let word = text_at(object, "refused", LineFault::Field)?;
     let refusal = Refusal::from_word(word).ok_or(LineFault::Field)?;
     Ok(Reply::Refused(refusal))
 }
@@ -125,7 +124,7 @@ fn refused_at(object: &Fields<'_, '_>) -> Result<Reply, LineFault>
 fn proposed_at(object: &Fields<'_, '_>) -> Result<Reply, LineFault>
     ensures { result ≡ spec.proposed_at (data_at object.now.stands) }
 {
-    keys_are(object, 2)?;
+    keys_are(object, 2, LineFault::Field)?;
     let value = value_under(object, "proposal")?;
     let proposal = proposal_at(&value)?;
     Ok(Reply::Proposed(Some(proposal)))
@@ -136,7 +135,7 @@ fn proposed_at(object: &Fields<'_, '_>) -> Result<Reply, LineFault>
 fn committed_at(object: &Fields<'_, '_>) -> Result<Reply, LineFault>
     ensures { result ≡ spec.committed_at (data_at object.now.stands) }
 {
-    keys_are(object, 2)?;
+    keys_are(object, 2, LineFault::Field)?;
     let value = value_under(object, "container")?;
     let container = placed_at(&value)?;
     Ok(Reply::Committed(container))
@@ -147,7 +146,7 @@ fn committed_at(object: &Fields<'_, '_>) -> Result<Reply, LineFault>
 fn usage_reply_at(object: &Fields<'_, '_>) -> Result<Reply, LineFault>
     ensures { result ≡ spec.usage_reply_at (data_at object.now.stands) }
 {
-    keys_are(object, 6)?;
+    keys_are(object, 6, LineFault::Field)?;
     let used = amount_under(object, "used")?;
     let guaranteed = amount_under(object, "guaranteed")?;
     let maximum = amount_under(object, "maximum")?;
@@ -171,7 +170,7 @@ fn list_of<'v>(
 ) -> Result<&'v Vec<Value>, LineFault>
     ensures { Gives (λ v. items_view v.now.items) result (spec.list_of count key.now (data_at object.now.stands)) }
 {
-    keys_are(object, count)?;
+    keys_are(object, count, LineFault::Field)?;
     list_under(object, key)
 }
 

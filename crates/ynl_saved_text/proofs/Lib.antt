@@ -1,4 +1,3 @@
-pub mod Sizes
 pub mod Clean
 pub mod RoundTrip
 pub mod OneLine

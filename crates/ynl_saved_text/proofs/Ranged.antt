@@ -10,7 +10,7 @@ use Rattle.ynl_resource.specs.Ranges.{whole, most_clock, most_count, most_priori
 use Rattle.ynl_resource.specs.Texts.{read_id}
 use Rattle.ynl_resource.specs.declared.ids.Id.{Id}
 use Rattle.ynl_resource.specs.declared.labels.Label.{Label}
-use Rattle.ynl_fields.specs.Reading.{◌>>=◌, or_fault, or_other, reading, is_size, Gives, HasClock}
+use Rattle.ynl_fields.specs.Reading.{◌>>=◌, or_fault, or_other, id_or, size_or, within_or, reading, is_size, Gives, HasClock}
 use Rattle.ynl_fields.proofs.Ids.{id_ranged}
 use Rattle.ynl_fields.proofs.Sizes.{IsSize-from_is_size}
 use Rattle.ynl_model.specs.declared.proposals.What.TheVariants.{Ask as Asked}
@@ -19,8 +19,7 @@ use Rattle.ynl_saved_text.specs.declared.faults.StateFault.{StateFault}
 use Rattle.ynl_saved_text.specs.declared.faults.StateFault.TheVariants as fault
 use Rattle.ynl_saved_text.specs.declared.kinds.StateKind.{StateKind}
 use Rattle.ynl_saved_text.specs.declared.kinds.StateKind.TheVariants as kind
-use Rattle.ynl_saved_text.specs.Keys.{text_at, number_at, keys_are, name_at, label_at, path_at, id_at, size_at, within}
-use Rattle.ynl_saved_text.specs.StateLines.{version_at, begin_at, partition_at, node_at, live_at, ask_at, finished_at, wanted_at, wanted_label_at, what_at, container_at, stopped_at, maximum_at, end_at, kind_of, in_order, line_by, line_at, line_behind, HasPriority, IsRanged}
+use Rattle.ynl_saved_text.specs.StateLines.{text_at, number_at, keys_are, name_at, label_at, path_at, id_at, size_at, within, version_at, begin_at, partition_at, node_at, live_at, ask_at, finished_at, wanted_at, wanted_label_at, what_at, container_at, stopped_at, maximum_at, end_at, kind_of, in_order, line_by, line_at, line_behind, HasPriority, IsRanged}
 
 -- what holds whatever was read first
 next : {A B E : Type 0} (r : Result A E) (f : A → Result B E) (P : B → Type 0) → ((x : A) → IfOk (f x) P) → IfOk (r >>= f) P
@@ -39,11 +38,11 @@ at_most : (most n : ℕ) → leb n most ≡ true → n ≤ most
 at_most most n e = grind (arith, nat_tests)
 
 number-ranged : (most n : ℕ) → IfOk (within most n) (λ n. n ≤ most)
-unfolding within
+unfolding within_or
 number-ranged most n = cond_both (leb n most) (Ok n) (Err fault.Range) (λ r. IfOk r (λ n. n ≤ most)) (λ e. at_most most n e) (λ e. tt)
 
 size-ranged : (memory vcores : ℕ) → IfOk (size_at memory vcores) IsSize
-unfolding size_at
+unfolding size_or
 size-ranged memory vcores =
     cond_both (is_size memory vcores) (Ok (amount memory vcores)) (Err fault.Range) (λ r. IfOk r IsSize) (λ e. IsSize-from_is_size memory vcores e) (λ e. tt)
 
@@ -52,7 +51,7 @@ named (Ok id) h = h id refl
 named (Err e) h = tt
 
 id-ranged : (text : List ℕ) → IfOk (id_at text) HasClock
-unfolding id_at
+unfolding id_or
 id-ranged text = named (read_id text) (λ id e. id_ranged text id (sym e))
 
 what-ranged : (wanted : Option (Label × ℕ)) → IfOk (what_at wanted) HasPriority

@@ -1,4 +1,3 @@
-pub mod Keys
 pub mod StateLines
 pub mod Sound
 pub mod Texts

@@ -10,13 +10,14 @@ use Rattle.ynl_resource.specs.Ranges.{whole, most_clock, most_count, most_priori
 use Rattle.ynl_resource.specs.declared.names.Name.{Name}
 use Rattle.ynl_resource.specs.declared.labels.Label.{Label}
 use Rattle.ynl_resource.specs.declared.paths.Path.{Path}
+use Rattle.ynl_resource.specs.declared.ids.Id.{Id}
 use Rattle.ynl_resource.specs.Texts.{label_text, path_text, id_text}
 use Rattle.ynl_model.specs.declared.proposals.What.{What}
 use Rattle.ynl_model.specs.declared.proposals.What.TheVariants.{Master, Ask as Asked}
 use Rattle.ynl_model.specs.declared.containers.Placed.{Placed as Container}
 use Rattle.ynl_model.specs.declared.nodes.Node.{Node as NodeRow}
 use Rattle.ynl_model.specs.declared.applications.AskRow.{AskRow}
-use Rattle.ynl_fields.specs.Reading.{reading, ◌>>=◌, or_fault, HasClock}
+use Rattle.ynl_fields.specs.Reading.{reading, ◌>>=◌, or_fault, text_or, number_or, keys_or, name_or, label_or, path_or, id_or, size_or, within_or, HasClock}
 use Rattle.ynl_fields.specs.Writing.{count}
 use Rattle.ynl_saved_text.specs.declared.faults.StateFault.{StateFault}
 use Rattle.ynl_saved_text.specs.declared.faults.StateFault.TheVariants as fault
@@ -24,7 +25,6 @@ use Rattle.ynl_saved_text.specs.declared.kinds.StateKind.{StateKind}
 use Rattle.ynl_saved_text.specs.declared.kinds.StateKind.TheVariants as kind
 use Rattle.ynl_saved.specs.declared.lines.StateLine.{StateLine}
 use Rattle.ynl_saved.specs.declared.lines.StateLine.TheVariants.{Begin, Partition, Node, Live, Ask, Finished, Container as Holds, Stopped, Maximum, End}
-use Rattle.ynl_saved_text.specs.Keys.{text_at, number_at, keys_are, name_at, label_at, path_at, id_at, size_at, within}
 
 -- the word that tells why a text is no state
 abbrev pub fault_word : StateFault → List ℕ
@@ -160,6 +160,41 @@ is_end _ = false
 abbrev pub may_follow : Option StateKind → StateKind → Bool
 may_follow None next = is_begin next
 may_follow (Some before) next = not (is_begin next) && not (is_end before) && nat_le (rank before) (rank next)
+
+-- ---- the fields
+
+-- the string under a key, or else the fault `field`
+abbrev pub text_at : List ℕ → Data → Result (List ℕ) StateFault
+text_at key d = text_or fault.Field key d
+
+-- the whole number under a key, or else the fault `field`
+abbrev pub number_at : List ℕ → Data → Result ℕ StateFault
+number_at key d = number_or fault.Field key d
+
+-- an object with so many members, or else the fault `field`
+abbrev pub keys_are : ℕ → Data → Result (Unit {0}) StateFault
+keys_are count d = keys_or fault.Field count d
+
+-- these are the name, label, path or id that a text spells, or else the fault `name`
+abbrev pub name_at : List ℕ → Result Name StateFault
+name_at text = name_or fault.Name text
+
+abbrev pub label_at : List ℕ → Result Label StateFault
+label_at text = label_or fault.Name text
+
+abbrev pub path_at : List ℕ → Result Path StateFault
+path_at text = path_or fault.Name text
+
+abbrev pub id_at : List ℕ → Result Id StateFault
+id_at text = id_or fault.Name text
+
+-- a size of so many MB and virtual cores, or else the fault `range`
+abbrev pub size_at : ℕ → ℕ → Result Resource StateFault
+size_at memory vcores = size_or fault.Range memory vcores
+
+-- a number that is at most so large, or else the fault `range`
+abbrev pub within : ℕ → ℕ → Result ℕ StateFault
+within most n = within_or fault.Range most n
 
 -- ---- the lines of each kind: first all fields, then all names, then the range
 

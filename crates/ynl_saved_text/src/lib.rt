@@ -9,7 +9,6 @@ pub use write::put_state_line;
 
 mod compact;
 mod faults;
-mod keys;
 mod kinds;
 mod read;
 mod read_applications;

@@ -5,10 +5,11 @@ ghost use Rattle.ynl_fields.specs.Trees.{data_at};
 ghost use Rattle.ynl_saved_text.specs.StateLines as spec;
 
 use crate::faults::StateFault;
-use crate::keys::{keys_are, number_at, size_at, text_at, within_small};
-use ynl_fields::Fields;
+use ynl_fields::{
+    Fields, keys_are, label_at, name_at, number_at, path_at, size_at, text_at, within_small,
+};
 use ynl_model::AskRow;
-use ynl_resource::{Label, MOST_COUNT, Name, Path};
+use ynl_resource::MOST_COUNT;
 use ynl_saved::StateLine;
 
 /// `live`: an application that is not finished, with its home label and the size of its master.
@@ -16,18 +17,17 @@ use ynl_saved::StateLine;
 pub fn live_at(object: &Fields<'_, '_>) -> Result<StateLine, StateFault>
     ensures { result ≡ spec.live_at (data_at object.now.stands) }
 {
-    keys_are(object, 7)?;
-    let app = text_at(object, "app")?;
-    let label = text_at(object, "label")?;
-    let memory = number_at(object, "memory")?;
-    let queue = text_at(object, "queue")?;
-    let user = text_at(object, "user")?;
-    let vcores = number_at(object, "vcores")?;
+    keys_are(object, 7, StateFault::Field)?;
+    let app = text_at(object, "app", StateFault::Field)?;
+    let label = text_at(object, "label", StateFault::Field)?;
+    let memory = number_at(object, "memory", StateFault::Field)?;
+    let queue = text_at(object, "queue", StateFault::Field)?;
+    let user = text_at(object, "user", StateFault::Field)?;
+    let vcores = number_at(object, "vcores", StateFault::Field)?;
     live_of(app, label, memory, queue, user, vcores)
 }
 
 /// A live application, from what stands under its keys.
-#[tactic(auto, unfolding(crate::specs::Keys::name_at, crate::specs::Keys::label_at, crate::specs::Keys::path_at))]
 fn live_of(
     app: &str,
     label: &str,
@@ -38,15 +38,11 @@ fn live_of(
 ) -> Result<StateLine, StateFault>
     ensures { result ≡ spec.live_of app.now label.now memory queue.now user.now vcores }
 {
-    let (Ok(app), Ok(label), Ok(queue), Ok(user)) = (
-        Name::parse(app),
-        Label::parse(label),
-        Path::parse(queue),
-        Name::parse(user),
-    ) else {
-        return Err(StateFault::Name);
-    };
-    let master = size_at(memory, vcores)?;
+    let app = name_at(app, StateFault::Name)?;
+    let label = label_at(label, StateFault::Name)?;
+    let queue = path_at(queue, StateFault::Name)?;
+    let user = name_at(user, StateFault::Name)?;
+    let master = size_at(memory, vcores, StateFault::Range)?;
     Ok(StateLine::Live {
         queue,
         app,
@@ -61,19 +57,18 @@ fn live_of(
 pub fn ask_at(object: &Fields<'_, '_>) -> Result<StateLine, StateFault>
     ensures { result ≡ spec.ask_at (data_at object.now.stands) }
 {
-    keys_are(object, 8)?;
-    let app = text_at(object, "app")?;
-    let count = number_at(object, "count")?;
-    let label = text_at(object, "label")?;
-    let memory = number_at(object, "memory")?;
-    let priority = number_at(object, "priority")?;
-    let tenant = text_at(object, "tenant")?;
-    let vcores = number_at(object, "vcores")?;
+    keys_are(object, 8, StateFault::Field)?;
+    let app = text_at(object, "app", StateFault::Field)?;
+    let count = number_at(object, "count", StateFault::Field)?;
+    let label = text_at(object, "label", StateFault::Field)?;
+    let memory = number_at(object, "memory", StateFault::Field)?;
+    let priority = number_at(object, "priority", StateFault::Field)?;
+    let tenant = text_at(object, "tenant", StateFault::Field)?;
+    let vcores = number_at(object, "vcores", StateFault::Field)?;
     ask_of(app, count, label, memory, priority, tenant, vcores)
 }
 
 /// An ask, from what stands under its keys.
-#[tactic(auto, unfolding(crate::specs::Keys::name_at, crate::specs::Keys::label_at))]
 fn ask_of(
     app: &str,
     count: u64,
@@ -85,16 +80,12 @@ fn ask_of(
 ) -> Result<StateLine, StateFault>
     ensures { result ≡ spec.ask_of app.now count label.now memory priority tenant.now vcores }
 {
-    let (Ok(app), Ok(label), Ok(tenant)) = (
-        Name::parse(app),
-        Label::parse(label),
-        Name::parse(tenant),
-    ) else {
-        return Err(StateFault::Name);
-    };
-    let count = within_small(MOST_COUNT, count)?;
-    let priority = within_small(u32::MAX, priority)?;
-    let size = size_at(memory, vcores)?;
+    let app = name_at(app, StateFault::Name)?;
+    let label = label_at(label, StateFault::Name)?;
+    let tenant = name_at(tenant, StateFault::Name)?;
+    let count = within_small(MOST_COUNT, count, StateFault::Range)?;
+    let priority = within_small(u32::MAX, priority, StateFault::Range)?;
+    let size = size_at(memory, vcores, StateFault::Range)?;
     Ok(StateLine::Ask {
         tenant,
         app,
@@ -108,15 +99,14 @@ fn ask_of(
 }
 
 /// `finished`: an application that is finished.
-#[tactic(auto, unfolding(crate::specs::StateLines::finished_at, crate::specs::Keys::name_at, crate::specs::Keys::path_at))]
+#[tactic(auto, unfolding(crate::specs::StateLines::finished_at))]
 pub fn finished_at(object: &Fields<'_, '_>) -> Result<StateLine, StateFault>
     ensures { result ≡ spec.finished_at (data_at object.now.stands) }
 {
-    keys_are(object, 3)?;
-    let app = text_at(object, "app")?;
-    let queue = text_at(object, "queue")?;
-    let (Ok(app), Ok(queue)) = (Name::parse(app), Path::parse(queue)) else {
-        return Err(StateFault::Name);
-    };
+    keys_are(object, 3, StateFault::Field)?;
+    let app = text_at(object, "app", StateFault::Field)?;
+    let queue = text_at(object, "queue", StateFault::Field)?;
+    let app = name_at(app, StateFault::Name)?;
+    let queue = path_at(queue, StateFault::Name)?;
     Ok(StateLine::Finished { queue, app })
 }

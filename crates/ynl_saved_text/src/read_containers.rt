@@ -5,10 +5,11 @@ ghost use Rattle.ynl_fields.specs.Trees.{data_at};
 ghost use Rattle.ynl_saved_text.specs.StateLines as spec;
 
 use crate::faults::StateFault;
-use crate::keys::{keys_are, number_at, size_at, text_at, within_small};
-use ynl_fields::Fields;
+use ynl_fields::{
+    Fields, id_at, keys_are, label_at, name_at, number_at, size_at, text_at, within_small,
+};
 use ynl_model::{Placed, What};
-use ynl_resource::{Id, Label, Name};
+use ynl_resource::Label;
 use ynl_saved::StateLine;
 
 /// `container`: its `label` and `priority` are there just where it was asked for.
@@ -16,9 +17,9 @@ use ynl_saved::StateLine;
 pub fn container_at(object: &Fields<'_, '_>) -> Result<StateLine, StateFault>
     ensures { result ≡ spec.container_at (data_at object.now.stands) }
 {
-    let what = text_at(object, "what")?;
+    let what = text_at(object, "what", StateFault::Field)?;
     if what == "master" {
-        keys_are(object, 8)?;
+        keys_are(object, 8, StateFault::Field)?;
         container_with(object, None)
     } else if what == "ask" {
         asked_at(object)
@@ -32,9 +33,9 @@ pub fn container_at(object: &Fields<'_, '_>) -> Result<StateLine, StateFault>
 fn asked_at(object: &Fields<'_, '_>) -> Result<StateLine, StateFault>
     ensures { result ≡ spec.asked_container (data_at object.now.stands) }
 {
-    keys_are(object, 10)?;
-    let label = text_at(object, "label")?;
-    let priority = number_at(object, "priority")?;
+    keys_are(object, 10, StateFault::Field)?;
+    let label = text_at(object, "label", StateFault::Field)?;
+    let priority = number_at(object, "priority", StateFault::Field)?;
     container_with(object, Some((label, priority)))
 }
 
@@ -45,26 +46,26 @@ fn container_with(
 ) -> Result<StateLine, StateFault>
     ensures { result ≡ spec.container_with (data_at object.now.stands) (option_map (λ wanted. (wanted.0.now, wanted.1)) wanted.entry) }
 {
-    let app = text_at(object, "app")?;
-    let id = text_at(object, "id")?;
-    let memory = number_at(object, "memory")?;
-    let node = text_at(object, "node")?;
-    let tenant = text_at(object, "tenant")?;
-    let vcores = number_at(object, "vcores")?;
+    let app = text_at(object, "app", StateFault::Field)?;
+    let id = text_at(object, "id", StateFault::Field)?;
+    let memory = number_at(object, "memory", StateFault::Field)?;
+    let node = text_at(object, "node", StateFault::Field)?;
+    let tenant = text_at(object, "tenant", StateFault::Field)?;
+    let vcores = number_at(object, "vcores", StateFault::Field)?;
     container_of(wanted, app, id, memory, node, tenant, vcores)
 }
 
 /// What is wanted, with the label read.
-#[tactic(auto, unfolding(crate::specs::StateLines::wanted_label_at, crate::specs::Keys::label_at))]
+#[tactic(auto, unfolding(crate::specs::StateLines::wanted_label_at))]
 fn wanted_label_at(wanted: Option<(&str, u64)>) -> Result<Option<(Label, u64)>, StateFault>
     ensures { result ≡ spec.wanted_label_at (option_map (λ wanted. (wanted.0.now, wanted.1)) wanted.entry) }
 {
     match wanted {
         None => Ok(None),
-        Some((text, priority)) => match Label::parse(text) {
-            Ok(label) => Ok(Some((label, priority))),
-            Err(_) => Err(StateFault::Name),
-        },
+        Some((text, priority)) => {
+            let label = label_at(text, StateFault::Name)?;
+            Ok(Some((label, priority)))
+        }
     }
 }
 
@@ -76,14 +77,13 @@ fn what_at(wanted: Option<(Label, u64)>) -> Result<What, StateFault>
     match wanted {
         None => Ok(What::Master),
         Some((label, priority)) => {
-            let priority = within_small(u32::MAX, priority)?;
+            let priority = within_small(u32::MAX, priority, StateFault::Range)?;
             Ok(What::Ask(label, priority))
         }
     }
 }
 
 /// A container, from what stands under its keys.
-#[tactic(auto, unfolding(crate::specs::Keys::name_at, crate::specs::Keys::id_at))]
 fn container_of(
     wanted: Option<(&str, u64)>,
     app: &str,
@@ -95,15 +95,13 @@ fn container_of(
 ) -> Result<StateLine, StateFault>
     ensures { result ≡ spec.container_of (option_map (λ wanted. (wanted.0.now, wanted.1)) wanted.entry) app.now id.now memory node.now tenant.now vcores }
 {
-    let (Ok(app), Ok(id)) = (Name::parse(app), Id::parse(id)) else {
-        return Err(StateFault::Name);
-    };
+    let app = name_at(app, StateFault::Name)?;
+    let id = id_at(id, StateFault::Name)?;
     let wanted = wanted_label_at(wanted)?;
-    let (Ok(node), Ok(tenant)) = (Name::parse(node), Name::parse(tenant)) else {
-        return Err(StateFault::Name);
-    };
+    let node = name_at(node, StateFault::Name)?;
+    let tenant = name_at(tenant, StateFault::Name)?;
     let what = what_at(wanted)?;
-    let size = size_at(memory, vcores)?;
+    let size = size_at(memory, vcores, StateFault::Range)?;
     Ok(StateLine::Container(Placed {
         id,
         node,

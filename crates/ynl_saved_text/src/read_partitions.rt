@@ -6,10 +6,9 @@ ghost use Rattle.ynl_fields.specs.Trees.{data_at};
 ghost use Rattle.ynl_saved_text.specs.StateLines as spec;
 
 use crate::faults::StateFault;
-use crate::keys::{keys_are, number_at, size_at, text_at, within};
-use ynl_fields::Fields;
+use ynl_fields::{Fields, keys_are, label_at, name_at, number_at, size_at, text_at, within};
 use ynl_model::Node;
-use ynl_resource::{Label, MOST_CLOCK, Name};
+use ynl_resource::MOST_CLOCK;
 use ynl_saved::StateLine;
 
 /// The only version of the text.
@@ -32,24 +31,22 @@ fn version_at(number: u64) -> Result<(), StateFault>
 pub fn begin_at(object: &Fields<'_, '_>) -> Result<StateLine, StateFault>
     ensures { result ≡ spec.begin_at (data_at object.now.stands) }
 {
-    keys_are(object, 2)?;
-    let number = number_at(object, "version")?;
+    keys_are(object, 2, StateFault::Field)?;
+    let number = number_at(object, "version", StateFault::Field)?;
     version_at(number)?;
     Ok(StateLine::Begin)
 }
 
 /// `partition`: its clock.
-#[tactic(auto, unfolding(crate::specs::StateLines::partition_at, crate::specs::Keys::label_at))]
+#[tactic(auto, unfolding(crate::specs::StateLines::partition_at))]
 pub fn partition_at(object: &Fields<'_, '_>) -> Result<StateLine, StateFault>
     ensures { result ≡ spec.partition_at (data_at object.now.stands) }
 {
-    keys_are(object, 3)?;
-    let clock = number_at(object, "clock")?;
-    let label = text_at(object, "label")?;
-    let Ok(label) = Label::parse(label) else {
-        return Err(StateFault::Name);
-    };
-    let clock = within(MOST_CLOCK, clock)?;
+    keys_are(object, 3, StateFault::Field)?;
+    let clock = number_at(object, "clock", StateFault::Field)?;
+    let label = text_at(object, "label", StateFault::Field)?;
+    let label = label_at(label, StateFault::Name)?;
+    let clock = within(MOST_CLOCK, clock, StateFault::Range)?;
     Ok(StateLine::Partition { label, clock })
 }
 
@@ -58,17 +55,16 @@ pub fn partition_at(object: &Fields<'_, '_>) -> Result<StateLine, StateFault>
 pub fn node_at(object: &Fields<'_, '_>) -> Result<StateLine, StateFault>
     ensures { result ≡ spec.node_at (data_at object.now.stands) }
 {
-    keys_are(object, 6)?;
-    let label = text_at(object, "label")?;
-    let memory = number_at(object, "memory")?;
-    let node = text_at(object, "node")?;
-    let stamp = number_at(object, "stamp")?;
-    let vcores = number_at(object, "vcores")?;
+    keys_are(object, 6, StateFault::Field)?;
+    let label = text_at(object, "label", StateFault::Field)?;
+    let memory = number_at(object, "memory", StateFault::Field)?;
+    let node = text_at(object, "node", StateFault::Field)?;
+    let stamp = number_at(object, "stamp", StateFault::Field)?;
+    let vcores = number_at(object, "vcores", StateFault::Field)?;
     node_of(label, memory, node, stamp, vcores)
 }
 
 /// A node, from what stands under its keys.
-#[tactic(auto, unfolding(crate::specs::Keys::name_at, crate::specs::Keys::label_at))]
 fn node_of(
     label: &str,
     memory: u64,
@@ -78,11 +74,10 @@ fn node_of(
 ) -> Result<StateLine, StateFault>
     ensures { result ≡ spec.node_of label.now memory node.now stamp vcores }
 {
-    let (Ok(label), Ok(name)) = (Label::parse(label), Name::parse(node)) else {
-        return Err(StateFault::Name);
-    };
-    let stamp = within(MOST_CLOCK, stamp)?;
-    let size = size_at(memory, vcores)?;
+    let label = label_at(label, StateFault::Name)?;
+    let name = name_at(node, StateFault::Name)?;
+    let stamp = within(MOST_CLOCK, stamp, StateFault::Range)?;
+    let size = size_at(memory, vcores, StateFault::Range)?;
     Ok(StateLine::Node(Node {
         name,
         label,
@@ -96,7 +91,7 @@ fn node_of(
 pub fn end_at(object: &Fields<'_, '_>) -> Result<StateLine, StateFault>
     ensures { result ≡ spec.end_at (data_at object.now.stands) }
 {
-    keys_are(object, 2)?;
-    let lines = number_at(object, "lines")?;
+    keys_are(object, 2, StateFault::Field)?;
+    let lines = number_at(object, "lines", StateFault::Field)?;
     Ok(StateLine::End { lines })
 }
