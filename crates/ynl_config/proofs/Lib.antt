@@ -3,6 +3,7 @@ pub mod Granted
 pub mod Joined
 pub mod KeyTables
 pub mod Known
+pub mod Listing
 pub mod PlaceViews
 pub mod Placed
 pub mod Ranges

@@ -1,10 +1,11 @@
 -- The labels that a text gives a queue: names with commas between, `*` for all, and none where the text is blank.
-use Rattle.std.specs.Prelude.{ℕ, List, [], ◌∷◌, ◌++◌, Bool, ◌==◌, length, reverse, fold, Result, Ok, codes, if◌then◌else◌}
+use Rattle.std.specs.Prelude.{◌≡◌, ℕ, List, [], ◌∷◌, ◌++◌, Bool, ◌==◌, length, reverse, fold, Result, Ok, codes, if◌then◌else◌}
+use Rattle.std.specs.BTreeSet.{BTreeSet, contains}
 use Rattle.std.specs.List.{list_any, slice_split}
 use Rattle.std.specs.Str.{bytes_eq}
 use Rattle.toml.specs.Data.{Data}
 use Rattle.ynl_resource.specs.declared.names.Name.{Name}
-use Rattle.ynl_resource.specs.Names.{same_name}
+use Rattle.ynl_resource.specs.Names.{name_order, same_name}
 use Rattle.ynl_model.specs.Queues.{Access, AllLabels, Listed}
 use Rattle.ynl_config.specs.Earliest.{ConfigFault, ◌>>=◌, both}
 use Rattle.ynl_config.specs.Readings.{text_of, name_of}
@@ -33,6 +34,10 @@ is_comma b = b == 44
 -- the names, and one more unless it is there
 abbrev pub with_name : List Name → Name → List Name
 with_name names name = if list_any (same_name name) names then names else names ++ name ∷ []
+
+-- a set has just these names
+abbrev pub AreSeen : BTreeSet Name → List Name → Type 0
+AreSeen seen names = (name : Name) → contains name_order seen name ≡ list_any (same_name name) names
 
 -- the names so far, and that of one more part
 unfoldable pub with_part : Result (List Name) ConfigFault → List ℕ → Result (List Name) ConfigFault

@@ -1,10 +1,9 @@
 //! The labels that a queue may use, as a text lists them.
 
 ghost use Rattle.std.specs.Prelude.{◌≡◌, IfOk, map, Ok, ◌==◌};
-ghost use Rattle.std.specs.List.{list_any, slice_split};
+ghost use Rattle.std.specs.List.{slice_split};
 ghost use Rattle.toml.specs.View.{view};
-ghost use Rattle.ynl_resource.specs.Names.{same_name};
-ghost use Rattle.ynl_config.specs.Access.{is_comma, skip_spaces, cut_spaces, trimmed, with_name};
+ghost use Rattle.ynl_config.specs.Access.{is_comma, skip_spaces, cut_spaces, trimmed, with_name, AreSeen};
 ghost use Rattle.ynl_config.specs.Access as spec;
 ghost use Rattle.ynl_config.specs.Earliest.{items_in};
 ghost use Rattle.ynl_config.specs.Seen.{access_in};
@@ -13,6 +12,7 @@ use crate::faults::ConfigFault;
 use crate::together::both;
 use crate::values::{name_of, text_of};
 use std::alloc::{AllocError, Global};
+use std::collections::BTreeSet;
 use toml::Value;
 use ynl_queues::Access;
 use ynl_resource::Name;
@@ -49,21 +49,18 @@ fn parts(alloc: Global, text: &str) -> Result<Vec<&str>, AllocError>
     text.split(',').collect(alloc)
 }
 
-fn lists(names: &[Name], name: &Name) -> bool
-    ensures { result ≡ list_any (same_name name.now) names.now }
+/// The names, and one more unless it is there. The set has the same names: a text may list very many.
+fn with_name(
+    names: Vec<Name>,
+    seen: &mut BTreeSet<Name>,
+    name: Name,
+) -> Result<Vec<Name>, AllocError>
+    requires { AreSeen seen.old names.items }
+    ensures names { IfOk result (λ more. more.items ≡ with_name names.items name) }
+    ensures seen { IfOk result (λ more. AreSeen seen.new more.items) }
 {
-    for i in 0..names.len() {
-        if *name == names[i] {
-            return true;
-        }
-    }
-    false
-}
-
-fn with_name(mut names: Vec<Name>, name: Name) -> Result<Vec<Name>, AllocError>
-    ensures { IfOk result (λ more. more.items ≡ with_name names.items name) }
-{
-    if !lists(&names, &name) {
+    let mut names = names;
+    if seen.insert(name)? {
         names.push(name)?;
     }
     Ok(names)
@@ -72,14 +69,17 @@ fn with_name(mut names: Vec<Name>, name: Name) -> Result<Vec<Name>, AllocError>
 #[tactic(auto, unfolding(crate::specs::Access::with_part))]
 fn with_part(
     names: Result<Vec<Name>, ConfigFault>,
+    seen: &mut BTreeSet<Name>,
     part: &str,
 ) -> Result<Result<Vec<Name>, ConfigFault>, AllocError>
-    ensures { IfOk result (λ more. items_in more ≡ spec.with_part (items_in names) part.now) }
+    requires { IfOk names (λ names. AreSeen seen.old names.items) }
+    ensures names { IfOk result (λ more. items_in more ≡ spec.with_part (items_in names) part.now) }
+    ensures seen { IfOk result (λ more. IfOk more (λ names. AreSeen seen.new names.items)) }
 {
     let name = name_of(trimmed(part));
     match both(names, name) {
         Ok((names, name)) => {
-            let names = with_name(names, name)?;
+            let names = with_name(names, seen, name)?;
             Ok(Ok(names))
         }
         Err(fault) => Ok(Err(fault)),
@@ -89,9 +89,10 @@ fn with_part(
 fn names_in(alloc: Global, parts: &[&str]) -> Result<Result<Vec<Name>, ConfigFault>, AllocError>
     ensures { IfOk result (λ names. items_in names ≡ spec.names_in (map (λ part. part.now) parts.now)) }
 {
+    let mut seen = BTreeSet::new(alloc);
     let mut names = Ok(Vec::new(alloc));
     for part in parts {
-        names = with_part(names, part)?;
+        names = with_part(names, &mut seen, part)?;
     }
     Ok(names)
 }
