@@ -458,7 +458,7 @@ fn end_unread(alloc: Global, text: &[u8], fault: ToolFault) -> Ending
 {
     match read_config(alloc, text) {
         Ok(Ok(_config)) => Err(fault),
-        Ok(Err(fault)) => Ok(Err(JobRefusal::Config(fault))),
+        Ok(Err(bad)) => Ok(Err(JobRefusal::Config(bad))),
         Err(_) => Err(ToolFault::NoMemory),
     }
 }
