@@ -4,8 +4,8 @@ use Rattle.std.specs.List.{AllByRecursion}
 use Rattle.ynl_resource.specs.Names.{root}
 use Rattle.ynl_resource.specs.declared.paths.Path.{Path}
 use Rattle.ynl_laws.specs.Ways.{IsWay}
-use Rattle.ynl_layout.specs.Paths.{HasNumber, is_above, IsLine, IsTree}
-use Rattle.ynl_layout.proofs.settings.SharesMean.{IsBelowRoot}
+use Rattle.ynl_inventory.specs.layout.Paths.{HasNumber, is_above, IsLine, IsTree}
+use Rattle.ynl_inventory.proofs.layout.settings.SharesMean.{IsBelowRoot}
 
 take-own : (ns : List ℕ) → take (length ns) ns ≡ ns
 take-own [] = refl

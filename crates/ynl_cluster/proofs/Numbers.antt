@@ -4,7 +4,7 @@ use Rattle.std.proofs.lemmas.List.{length-map}
 use Rattle.ynl_resource.specs.Names.{root}
 use Rattle.ynl_model.specs.Nodes.{partition_labels}
 use Rattle.ynl_model.specs.Queues.{Config}
-use Rattle.ynl_layout.specs.Paths.{paths_of}
+use Rattle.ynl_inventory.specs.layout.Paths.{paths_of}
 use Rattle.ynl_inventory.specs.Rows.{Rows, PartitionRow}
 use Rattle.ynl_inventory.specs.Changes.{with_at}
 use Rattle.ynl_inventory.specs.Opening.{opening_partition, opening_rows}

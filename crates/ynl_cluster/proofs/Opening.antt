@@ -10,11 +10,11 @@ use Rattle.ynl_model.specs.declared.labels.LabelRow.{LabelRow}
 use Rattle.ynl_model.specs.Cluster.{opening}
 use Rattle.ynl_model.specs.Nodes.{Labels, partition_labels}
 use Rattle.ynl_model.specs.Queues.{Config, QueueRow}
-use Rattle.ynl_layout.specs.Paths.{HasNumber, paths_of}
-use Rattle.ynl_layout.specs.declared.settings.shares.Share.{Share}
-use Rattle.ynl_layout.specs.settings.Shares.{configured_on, configured_share, configured_shares, HasCell}
-use Rattle.ynl_layout.proofs.settings.SharesMean.{configured-are, maxima-opening}
-use Rattle.ynl_layout.proofs.settings.StopsMean.{stops-opening}
+use Rattle.ynl_inventory.specs.layout.Paths.{HasNumber, paths_of}
+use Rattle.ynl_inventory.specs.declared.layout.settings.shares.Share.{Share}
+use Rattle.ynl_inventory.specs.layout.settings.Shares.{configured_on, configured_share, configured_shares, HasCell}
+use Rattle.ynl_inventory.proofs.layout.settings.SharesMean.{configured-are, maxima-opening}
+use Rattle.ynl_inventory.proofs.layout.settings.StopsMean.{stops-opening}
 use Rattle.ynl_cluster.specs.uses.Tallies.{no_use, IsTable}
 use Rattle.ynl_lanes.specs.lane.Seats.{Seats}
 use Rattle.ynl_lanes.specs.table.Lanes.{no_seats}
@@ -26,7 +26,7 @@ use Rattle.ynl_cluster.specs.ledger.Totals.{no_total}
 use Rattle.ynl_cluster.proofs.ledger.Opened.{opened}
 use Rattle.ynl_cluster.specs.seating.Seating.{AreSeated}
 use Rattle.ynl_cluster.proofs.seating.Starting.{is-seated_first}
-use Rattle.ynl_layout.specs.settings.Meaning.{maxima_of, stops_of}
+use Rattle.ynl_inventory.specs.layout.settings.Meaning.{maxima_of, stops_of}
 use Rattle.ynl_cluster.specs.Cluster.{ClusterView, maxima_in, state_in, stops_in}
 use Rattle.ynl_cluster.specs.Whole.{AreParts, AreSettings}
 use Rattle.ynl_cluster.proofs.Numbers.{opening-numbers}

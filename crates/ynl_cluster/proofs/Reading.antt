@@ -16,11 +16,11 @@ use Rattle.ynl_model.specs.Nodes.{is_full, nodes_of, partition_labels}
 use Rattle.ynl_model.specs.Queues.{accepts, guaranteed as guaranteed_of, maximum as maximum_of}
 use Rattle.ynl_laws.specs.Uses.{use_of}
 use Rattle.ynl_laws.specs.Ways.{IsWay}
-use Rattle.ynl_layout.specs.Paths.{HasNumber, IsLine, IsTree, is_above, path_at, paths_of}
-use Rattle.ynl_layout.specs.settings.Shares.{capacity_at, maximum_at, reached, shares_on, HasCell, IsWayIn}
-use Rattle.ynl_layout.proofs.settings.MaximaMean.{AreLabels}
-use Rattle.ynl_layout.proofs.settings.SharesMean.{AreConfigured, IsBelowRoot, guaranteed-means, most-means}
-use Rattle.ynl_layout.proofs.settings.StopsMean.{stops-mean}
+use Rattle.ynl_inventory.specs.layout.Paths.{HasNumber, IsLine, IsTree, is_above, path_at, paths_of}
+use Rattle.ynl_inventory.specs.layout.settings.Shares.{capacity_at, maximum_at, reached, shares_on, HasCell, IsWayIn}
+use Rattle.ynl_inventory.proofs.layout.settings.MaximaMean.{AreLabels}
+use Rattle.ynl_inventory.proofs.layout.settings.SharesMean.{AreConfigured, IsBelowRoot, guaranteed-means, most-means}
+use Rattle.ynl_inventory.proofs.layout.settings.StopsMean.{stops-mean}
 use Rattle.ynl_cluster.specs.uses.Tallies.{AreSmall, HasPartition as HasUses, IsSmallUse, IsTotal}
 use Rattle.ynl_inventory.specs.Rows.{Rows, PartitionRow}
 use Rattle.ynl_inventory.specs.Meaning.{label_at}

@@ -5,11 +5,11 @@ use Rattle.ynl_model.specs.declared.queues.StopRow.{StopRow}
 use Rattle.ynl_model.specs.declared.queues.MaximumRow.{MaximumRow}
 use Rattle.ynl_model.specs.Nodes.{partition_labels}
 use Rattle.ynl_model.specs.Queues.{Config, set_maximum, set_stop}
-use Rattle.ynl_layout.specs.Paths.{HasNumber, path_at, paths_of}
-use Rattle.ynl_layout.specs.declared.settings.shares.Share.{Share}
-use Rattle.ynl_layout.specs.settings.Shares.{shares_on, with_at, with_maximum, HasCell}
-use Rattle.ynl_layout.proofs.settings.MaximaMean.{maximum-set, read-capacity}
-use Rattle.ynl_layout.proofs.settings.StopsMean.{stops-set}
+use Rattle.ynl_inventory.specs.layout.Paths.{HasNumber, path_at, paths_of}
+use Rattle.ynl_inventory.specs.declared.layout.settings.shares.Share.{Share}
+use Rattle.ynl_inventory.specs.layout.settings.Shares.{shares_on, with_at, with_maximum, HasCell}
+use Rattle.ynl_inventory.proofs.layout.settings.MaximaMean.{maximum-set, read-capacity}
+use Rattle.ynl_inventory.proofs.layout.settings.StopsMean.{stops-set}
 use Rattle.ynl_cluster.specs.declared.cluster.Cluster.TheInside.{Inside}
 use Rattle.ynl_cluster.specs.Cluster.{ClusterView, label_of, path_of, state_in, IsCell}
 use Rattle.ynl_cluster.specs.Whole.{view_of, AreSettings, IsCluster}

@@ -6,10 +6,10 @@ use Rattle.ynl_resource.specs.Names.{root, same_path}
 use Rattle.ynl_resource.specs.declared.paths.Path.{Path}
 use Rattle.ynl_model.specs.declared.queues.LeafSettings.{LeafSettings}
 use Rattle.ynl_model.specs.Queues.{Config, QueueRow, capacity_on, maximum_on, queue_row}
-use Rattle.ynl_layout.specs.Paths.{HasNumber, IsTree, path_at, paths_of}
-use Rattle.ynl_layout.specs.settings.Shares.{capacity_at, maximum_at}
-use Rattle.ynl_layout.proofs.settings.MaximaMean.{maximum-means}
-use Rattle.ynl_layout.proofs.settings.StopsMean.{other-path, own-path}
+use Rattle.ynl_inventory.specs.layout.Paths.{HasNumber, IsTree, path_at, paths_of}
+use Rattle.ynl_inventory.specs.layout.settings.Shares.{capacity_at, maximum_at}
+use Rattle.ynl_inventory.proofs.layout.settings.MaximaMean.{maximum-means}
+use Rattle.ynl_inventory.proofs.layout.settings.StopsMean.{other-path, own-path}
 use Rattle.ynl_lanes.specs.table.Lanes.{IsLaneAt}
 use Rattle.ynl_inventory.specs.Sound.{HasPartition}
 use Rattle.ynl_cluster.specs.declared.cluster.Cluster.TheInside.{Inside}

@@ -9,7 +9,7 @@ use Rattle.ynl_resource.specs.declared.paths.Path.{Path}
 use Rattle.ynl_resource.specs.Names.{root}
 use Rattle.ynl_model.specs.declared.uses.Use.{Use}
 use Rattle.ynl_laws.specs.Ways.{IsWay}
-use Rattle.ynl_layout.specs.Paths.{is_above}
+use Rattle.ynl_inventory.specs.layout.Paths.{is_above}
 use Rattle.ynl_slots.specs.Slots.{IsLive}
 use Rattle.ynl_lanes.specs.lane.Rows.{IsUse}
 use Rattle.ynl_lanes.specs.lane.Seats.{Seats}

@@ -13,9 +13,9 @@ use Rattle.ynl_model.specs.declared.containers.Placed.{Placed}
 use Rattle.ynl_model.specs.Cluster.{State}
 use Rattle.ynl_model.specs.Nodes.{partition_labels}
 use Rattle.ynl_model.specs.Queues.{Config}
-use Rattle.ynl_layout.specs.Paths.{HasNumber, path_at, paths_of}
-use Rattle.ynl_layout.specs.declared.settings.shares.Share.{Share}
-use Rattle.ynl_layout.specs.settings.Meaning.{maxima_of, stops_of}
+use Rattle.ynl_inventory.specs.layout.Paths.{HasNumber, path_at, paths_of}
+use Rattle.ynl_inventory.specs.declared.layout.settings.shares.Share.{Share}
+use Rattle.ynl_inventory.specs.layout.settings.Meaning.{maxima_of, stops_of}
 use Rattle.ynl_lanes.specs.lane.Seats.{Seats}
 use Rattle.ynl_lanes.specs.table.Lanes.{lane_at}
 use Rattle.ynl_inventory.specs.Rows.{Rows, AppRow}

@@ -4,9 +4,9 @@ use Rattle.ynl_resource.specs.declared.labels.Label.TheVariants.{Unlabelled}
 use Rattle.ynl_model.specs.declared.uses.Use.{Use}
 use Rattle.ynl_model.specs.Nodes.{partition_labels}
 use Rattle.ynl_model.specs.Queues.{Config, capacity_on}
-use Rattle.ynl_layout.specs.Paths.{HasNumber, path_at, paths_of}
-use Rattle.ynl_layout.specs.declared.settings.shares.Share.{Share}
-use Rattle.ynl_layout.specs.settings.Shares.{capacity_at, HasCell}
+use Rattle.ynl_inventory.specs.layout.Paths.{HasNumber, path_at, paths_of}
+use Rattle.ynl_inventory.specs.declared.layout.settings.shares.Share.{Share}
+use Rattle.ynl_inventory.specs.layout.settings.Shares.{capacity_at, HasCell}
 use Rattle.ynl_lanes.specs.lane.Seats.{Seats}
 use Rattle.ynl_inventory.specs.Rows.{Rows}
 use Rattle.ynl_inventory.specs.Sound.{IsFor, IsSound}

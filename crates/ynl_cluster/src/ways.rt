@@ -3,9 +3,9 @@
 ghost use Rattle.std.specs.Prelude.{◌∷◌};
 ghost use Rattle.ynl_resource.specs.Names.{root};
 ghost use Rattle.ynl_laws.specs.Ways.{IsWay};
-ghost use Rattle.ynl_layout.specs.Paths.{is_above, HasNumber, IsLine, IsTree};
+ghost use Rattle.ynl_inventory.specs.layout.Paths.{is_above, HasNumber, IsLine, IsTree};
 
-use ynl_layout::Layout;
+use ynl_inventory::layout::Layout;
 
 /// The numbers of the queues on the way to a queue, itself among them and root not.
 pub(crate) fn way_to(layout: &Layout, queue: usize) -> &[usize]

@@ -14,12 +14,12 @@ use Rattle.ynl_model.specs.declared.replies.Reply.{Reply}
 use Rattle.ynl_model.specs.Queues.{Config}
 use Rattle.ynl_model.specs.View.{seen_of, track, track_from, track_step, kept_if, is_in}
 use Rattle.ynl_journal.specs.Journal.{entry, events_in}
-use Rattle.ynl_evidence.specs.Evidence.{Placed, noted, evidence_from, evidence_of}
+use Rattle.ynl_view.specs.evidence.Evidence.{Placed, noted, evidence_from, evidence_of}
 use Rattle.ynl_core.specs.declared.memory.NoMemory.{NoMemory as Refused}
-use Rattle.ynl_evidence.specs.declared.flaws.Flaw.{Flaw}
-use Rattle.ynl_evidence.specs.Trials.{Takes, TakesNext}
-use Rattle.ynl_evidence.proofs.Kept.{track-push}
-use Rattle.ynl_evidence.proofs.Gathered.{gathered}
+use Rattle.ynl_view.specs.declared.evidence.flaws.Flaw.{Flaw}
+use Rattle.ynl_view.specs.evidence.Trials.{Takes, TakesNext}
+use Rattle.ynl_view.proofs.evidence.Kept.{track-push}
+use Rattle.ynl_view.proofs.evidence.Gathered.{gathered}
 use Rattle.ynl_lines.specs.ReadingReplies.{MayBeTold}
 use Rattle.ynl_lines.specs.Writing.{line_text}
 use Rattle.ynl_commands.specs.declared.evidence.Gathering.{Gathering}

@@ -2,12 +2,12 @@
 use Rattle.std.proofs.Common.{◌≡◌, ℕ, ◌+◌, Bool, true, false, cond, List, [], ◌∷◌, ◌++◌, Option, Some, None, Result, Ok, Err, refl}
 use Rattle.ynl_model.specs.Cluster.{opening}
 use Rattle.ynl_journal.specs.Same.{fits_reply}
-use Rattle.ynl_evidence.specs.declared.flaws.Flaw.TheVariants.{NotKept, Differs}
-use Rattle.ynl_evidence.specs.Evidence.{Placed}
-use Rattle.ynl_evidence.specs.Flaws.{may_follow, reply_alone}
-use Rattle.ynl_evidence.specs.Promises.{IsRight}
-use Rattle.ynl_evidence.proofs.Passing.{evidence_passes}
-use Rattle.ynl_evidence.proofs.Right.{right-nothing, right-push}
+use Rattle.ynl_view.specs.declared.evidence.flaws.Flaw.TheVariants.{NotKept, Differs}
+use Rattle.ynl_view.specs.evidence.Evidence.{Placed}
+use Rattle.ynl_view.specs.evidence.Flaws.{may_follow, reply_alone}
+use Rattle.ynl_view.specs.evidence.Promises.{IsRight}
+use Rattle.ynl_view.proofs.evidence.Passing.{evidence_passes}
+use Rattle.ynl_view.proofs.evidence.Right.{right-nothing, right-push}
 use Rattle.ynl_lines.specs.declared.faults.JournalFault.{JournalFault}
 use Rattle.ynl_commands.specs.declared.evidence.Tenancy.{Tenancy}
 use Rattle.ynl_commands.specs.Input.{Line, whole, too_long, lines_within, limit}

@@ -5,11 +5,11 @@ use Rattle.ynl_model.specs.declared.entries.Entry.{Entry}
 use Rattle.ynl_model.specs.declared.events.Event.{Event}
 use Rattle.ynl_model.specs.View.{seen_of, track, track_step}
 use Rattle.ynl_journal.specs.Journal.{events_in}
-use Rattle.ynl_evidence.specs.declared.flaws.Flaw.{Flaw}
-use Rattle.ynl_evidence.specs.declared.flaws.Flaw.TheVariants.{NotKept, Differs}
-use Rattle.ynl_evidence.specs.Evidence.{Placed, evidence_of, noted}
-use Rattle.ynl_evidence.specs.Flaws.{taken}
-use Rattle.ynl_evidence.specs.Trials.{IsTrialOf}
+use Rattle.ynl_view.specs.declared.evidence.flaws.Flaw.{Flaw}
+use Rattle.ynl_view.specs.declared.evidence.flaws.Flaw.TheVariants.{NotKept, Differs}
+use Rattle.ynl_view.specs.evidence.Evidence.{Placed, evidence_of, noted}
+use Rattle.ynl_view.specs.evidence.Flaws.{taken}
+use Rattle.ynl_view.specs.evidence.Trials.{IsTrialOf}
 use Rattle.ynl_lines.specs.declared.faults.BadLine.{BadLine}
 use Rattle.ynl_lines.specs.declared.faults.JournalFault.{JournalFault}
 use Rattle.ynl_lines.specs.declared.faults.JournalFault.TheVariants as fault

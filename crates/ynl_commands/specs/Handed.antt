@@ -3,8 +3,8 @@ use Rattle.std.specs.Prelude.{◌≡◌, ◌≢◌, ℕ, IsTrue, List, Some, Non
 use Rattle.ynl_model.specs.Accepted.{is_accepted}
 use Rattle.ynl_model.specs.Cluster.{opening}
 use Rattle.ynl_model.specs.View.{is_sole}
-use Rattle.ynl_evidence.specs.Flaws.{flaw_of}
-use Rattle.ynl_evidence.specs.Promises.{IsRight}
+use Rattle.ynl_view.specs.evidence.Flaws.{flaw_of}
+use Rattle.ynl_view.specs.evidence.Promises.{IsRight}
 use Rattle.ynl_lines.specs.declared.faults.JournalFault.TheVariants.{Differs}
 use Rattle.ynl_lines.specs.declared.faults.InputFault.TheVariants.{Journal as InJournal}
 use Rattle.ynl_commands.specs.declared.evidence.Tenancy.{Tenancy}

@@ -14,9 +14,9 @@ use crate::run::{Summary, ToolFault};
 use std::alloc::{AllocError, Global};
 use std::io::{BufRead, Write};
 use ynl_core::NoMemory;
-use ynl_evidence::{Flaw, Trial};
 use ynl_fields::is_blank;
 use ynl_lines::{JournalFault, LineReader};
+use ynl_view::evidence::{Flaw, Trial};
 
 /// Whether a line says an entry with its place, which the reader then lends; a blank line says none. Or that it is bad.
 fn says_placed(

@@ -33,15 +33,15 @@ use Rattle.ynl_inventory.specs.Meaning.{app_name, app_of, ask_of, item_of, node_
 use Rattle.ynl_inventory.specs.Sound.{IsSound}
 use Rattle.ynl_cluster.proofs.requests.Tables.{tabled}
 use Rattle.ynl_cluster.specs.Cluster.{ClusterView, label_of, maxima_in, name_in, path_of, state_in, stops_in, tenant_in}
-use Rattle.ynl_admission.specs.Admitted.{CanAskAs, CanExit, CanJoin, CanRelabel, CanRelease, CanSubmitAs}
-use Rattle.ynl_admission.specs.Named.{IsAppNamed, IsCellBelowRoot, IsNodeNamed, IsPartitionOf, IsQueueOf}
+use Rattle.ynl_replies.specs.admission.Admitted.{CanAskAs, CanExit, CanJoin, CanRelabel, CanRelease, CanSubmitAs}
+use Rattle.ynl_replies.specs.admission.Named.{IsAppNamed, IsCellBelowRoot, IsNodeNamed, IsPartitionOf, IsQueueOf}
 use Rattle.ynl_inventory.specs.declared.partition.Placement.{Placement}
 use Rattle.ynl_service.specs.Checking.{IsProposed}
-use Rattle.ynl_admission.specs.declared.applications.Asking.{Asking}
-use Rattle.ynl_admission.specs.declared.containers.Held.{Held}
-use Rattle.ynl_admission.specs.declared.nodes.Moved.{Moved}
-use Rattle.ynl_admission.specs.declared.queues.CellNumbers.{CellNumbers}
-use Rattle.ynl_admission.specs.declared.submissions.SubmissionNumbers.{SubmissionNumbers}
+use Rattle.ynl_replies.specs.declared.admission.applications.Asking.{Asking}
+use Rattle.ynl_replies.specs.declared.admission.containers.Held.{Held}
+use Rattle.ynl_replies.specs.declared.admission.nodes.Moved.{Moved}
+use Rattle.ynl_replies.specs.declared.admission.queues.CellNumbers.{CellNumbers}
+use Rattle.ynl_replies.specs.declared.admission.submissions.SubmissionNumbers.{SubmissionNumbers}
 
 -- what is found by a name has it
 node-named : (s : State) (name : Name) (node : Node) → node_in s name ≡ Some node → name ≡ node.name

@@ -8,7 +8,7 @@ use Rattle.ynl_resource.specs.declared.paths.Path.{Path}
 use Rattle.ynl_model.specs.Queues.{Config}
 use Rattle.ynl_model.specs.Cluster.{State, guaranteed, masters_used, maximum, runs, used, user_used}
 use Rattle.ynl_model.specs.Limits.{master_limit, user_limit, users}
-use Rattle.ynl_layout.specs.Paths.{path_at}
+use Rattle.ynl_inventory.specs.layout.Paths.{path_at}
 use Rattle.ynl_inventory.specs.Changes.{with_user, with_user_known}
 use Rattle.ynl_inventory.specs.Meaning.{label_at}
 use Rattle.ynl_inventory.specs.Rows.{PartitionRow, Rows}

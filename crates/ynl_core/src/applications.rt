@@ -8,10 +8,10 @@ ghost use Rattle.ynl_core.specs.World.{done_unless, Answers};
 
 use crate::cluster::Core;
 use crate::memory::NoMemory;
-use ynl_admission as admission;
 use ynl_inventory::NewSubmission;
 use ynl_model::{AskRow, Reply};
 use ynl_replies as replies;
+use ynl_replies::admission;
 use ynl_resource::{Label, Name, Path, Refusal, Size};
 use ynl_search::notes::{ask, finish, submit};
 

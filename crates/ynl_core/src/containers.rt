@@ -10,10 +10,10 @@ ghost use Rattle.ynl_core.specs.World.{done_unless, Answers};
 
 use crate::cluster::Core;
 use crate::memory::NoMemory;
-use ynl_admission as admission;
-use ynl_admission::Held;
 use ynl_cluster::Cluster;
 use ynl_model::{Proposal, Reply};
+use ynl_replies::admission;
+use ynl_replies::admission::Held;
 use ynl_resource::{Id, Name, Refusal};
 use ynl_search::notes::{end, place};
 use ynl_service::{check, proposed};

@@ -7,8 +7,8 @@ ghost use Rattle.ynl_core.specs.World.{beaten, done_unless, Answers};
 
 use crate::cluster::Core;
 use crate::memory::NoMemory;
-use ynl_admission as admission;
 use ynl_model::{Items, Placed, Reply};
+use ynl_replies::admission;
 use ynl_resource::{Label, Name, Refusal, Size};
 use ynl_service::serve;
 

@@ -6,9 +6,9 @@ ghost use Rattle.ynl_core.specs.World.{done_unless, Answers};
 
 use crate::cluster::Core;
 use crate::memory::NoMemory;
-use ynl_admission as admission;
 use ynl_model::Reply;
 use ynl_replies as replies;
+use ynl_replies::admission;
 use ynl_resource::{Hundredths, Label, Path, Refusal};
 
 impl Core {

@@ -7,8 +7,8 @@ ghost use Rattle.ynl_core.specs.Sightings.{IsSighting};
 
 use crate::memory::NoMemory;
 use std::alloc::Global;
-use ynl_admission::placing;
 use ynl_cluster::Cluster;
+use ynl_replies::admission::placing;
 use ynl_resource::{Name, Refusal};
 use ynl_sights::{LeafLists, Sight};
 

@@ -8,7 +8,7 @@ use Rattle.ynl_resource.specs.Tables.{put, without}
 use Rattle.ynl_model.specs.declared.queues.StopRow.{StopRow}
 use Rattle.ynl_model.specs.declared.queues.MaximumRow.{MaximumRow}
 use Rattle.ynl_model.specs.Applications.{in_leaf, set_ask, with_app}
-use Rattle.ynl_layout.specs.Paths.{path_at}
+use Rattle.ynl_inventory.specs.layout.Paths.{path_at}
 use Rattle.ynl_tables.specs.declared.apps.asks.Ask.{Ask}
 use Rattle.ynl_tables.specs.apps.Asks.{AreAsks, is_ask_of, with_ask}
 use Rattle.ynl_tables.proofs.apps.Asking.{asks_dropped, asks_put}

@@ -11,7 +11,7 @@ use Rattle.ynl_resource.specs.declared.names.Name.{Name}
 use Rattle.ynl_resource.specs.declared.paths.Path.{Path}
 use Rattle.ynl_resource.specs.Names.{root, same_name, same_path, tenant_of, top_level}
 use Rattle.ynl_model.specs.Applications.{Application, LeafApps, find_app, leaf_of as leaf_found, row_of}
-use Rattle.ynl_layout.specs.Paths.{HasNumber, path_at}
+use Rattle.ynl_inventory.specs.layout.Paths.{HasNumber, path_at}
 use Rattle.ynl_laws.proofs.Lists.{Each-all, Each-weaker, any-later, find-map, find-nothing}
 use Rattle.ynl_laws.proofs.Names.{same-name_self, same-name_sym}
 use Rattle.ynl_tables.specs.declared.submissions.submissions.Submission.{Submission}

@@ -13,7 +13,7 @@ use Rattle.ynl_resource.specs.declared.ids.Id.{Id}
 use Rattle.ynl_laws.proofs.Lists.{find-nothing, Each-map}
 use Rattle.ynl_laws.proofs.Logic.{and-false}
 use Rattle.ynl_laws.proofs.Names.{same-label_self, same-name_sym}
-use Rattle.ynl_layout.specs.Paths.{HasNumber, path_at}
+use Rattle.ynl_inventory.specs.layout.Paths.{HasNumber, path_at}
 use Rattle.ynl_model.specs.declared.nodes.Node.{Node}
 use Rattle.ynl_model.specs.declared.containers.Placed.{Placed}
 use Rattle.ynl_model.specs.declared.queues.StopRow.{StopRow}

@@ -16,7 +16,7 @@ use Rattle.ynl_model.specs.Applications.{Application, in_leaf, finished}
 use Rattle.ynl_laws.specs.Numbers.{Differ}
 use Rattle.ynl_laws.proofs.Lists.{Pairs-filter}
 use Rattle.ynl_laws.proofs.Names.{same-name_self}
-use Rattle.ynl_layout.specs.Paths.{path_at}
+use Rattle.ynl_inventory.specs.layout.Paths.{path_at}
 use Rattle.ynl_slots.specs.Slots.{IsLive, without}
 use Rattle.ynl_slots.proofs.Entries.{distinct_without, itself, lookup-without-other, other as apart_numbers}
 use Rattle.ynl_slots.proofs.Lookups.{lookup-without}

@@ -4,7 +4,7 @@ use Rattle.std.specs.List.{AllByRecursion}
 use Rattle.std.proofs.lemmas.Bool.{cases_eq}
 use Rattle.ynl_resource.specs.Names.{same_path}
 use Rattle.ynl_model.specs.Applications.{LeafApps, in_leaf}
-use Rattle.ynl_layout.specs.Paths.{HasNumber, IsTree, path_at}
+use Rattle.ynl_inventory.specs.layout.Paths.{HasNumber, IsTree, path_at}
 use Rattle.ynl_laws.proofs.Names.{same-path}
 use Rattle.ynl_inventory.specs.Rows.{Rows}
 use Rattle.ynl_inventory.specs.Meaning.{leaf_numbers, leaf_of}

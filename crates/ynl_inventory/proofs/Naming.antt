@@ -8,7 +8,7 @@ use Rattle.ynl_resource.specs.declared.names.Name.{Name}
 use Rattle.ynl_resource.specs.declared.labels.Label.{Label}
 use Rattle.ynl_resource.specs.declared.labels.Label.TheVariants.{Unlabelled}
 use Rattle.ynl_model.specs.declared.proposals.What.TheVariants.{Ask as Asked}
-use Rattle.ynl_layout.specs.Paths.{path_at}
+use Rattle.ynl_inventory.specs.layout.Paths.{path_at}
 use Rattle.ynl_slots.specs.Slots.{IsLive, without}
 use Rattle.ynl_slots.proofs.Entries.{lookup-without-other}
 use Rattle.ynl_tables.specs.apps.Apps.{with_change}

@@ -20,7 +20,7 @@ use Rattle.ynl_laws.proofs.Lists.{Each-map, Each-all, all-of, map-map}
 use Rattle.ynl_laws.proofs.Logic.{not-true}
 use Rattle.ynl_laws.proofs.Names.{same-label_self}
 use Rattle.ynl_queues.specs.Trees.{HasTree}
-use Rattle.ynl_layout.specs.Paths.{IsTree, path_at, paths_of}
+use Rattle.ynl_inventory.specs.layout.Paths.{IsTree, path_at, paths_of}
 use Rattle.ynl_tables.specs.declared.submissions.submissions.Submission.{Submission}
 use Rattle.ynl_resource.specs.declared.names.Name.{Name}
 use Rattle.ynl_inventory.specs.Rows.{Rows, PartitionRow}

@@ -17,7 +17,7 @@ use Rattle.ynl_model.specs.Queues.{Config}
 use Rattle.ynl_model.specs.Applications.{in_leaf, with_app}
 use Rattle.ynl_model.specs.Cluster.{State, next_clock}
 use Rattle.ynl_model.specs.Changes.{changed_at, container_of, place, taken}
-use Rattle.ynl_layout.specs.Paths.{path_at}
+use Rattle.ynl_inventory.specs.layout.Paths.{path_at}
 use Rattle.ynl_slots.specs.Slots.{IsUnused}
 use Rattle.ynl_slots.proofs.Entries.{distinct_push}
 use Rattle.ynl_slots.proofs.Lookups.{lookup-push}

@@ -10,7 +10,7 @@ use Rattle.std.proofs.lemmas.Option.{get_or_from_slice_get, slice_get-map}
 use Rattle.ynl_resource.specs.Names.{root, same_path, tenant_of, top_level}
 use Rattle.ynl_resource.specs.declared.names.Name.{Name}
 use Rattle.ynl_resource.specs.declared.paths.Path.{Path}
-use Rattle.ynl_layout.specs.Paths.{path_at}
+use Rattle.ynl_inventory.specs.layout.Paths.{path_at}
 use Rattle.ynl_slots.specs.Slots.{Numbered, IsLive, IsUnused}
 use Rattle.ynl_slots.specs.Chain.{IsChain}
 use Rattle.ynl_tables.specs.declared.apps.app.AppRow.{AppRow as AppPart}

@@ -16,7 +16,7 @@ use Rattle.ynl_model.specs.declared.queues.MaximumRow.{MaximumRow}
 use Rattle.ynl_model.specs.Applications.{Application, in_leaf, submitted, new_app as new_model_app}
 use Rattle.ynl_laws.specs.Numbers.{Differ}
 use Rattle.ynl_laws.proofs.Lists.{Each-map, Pairs-last}
-use Rattle.ynl_layout.specs.Paths.{HasNumber, path_at}
+use Rattle.ynl_inventory.specs.layout.Paths.{HasNumber, path_at}
 use Rattle.ynl_slots.specs.Slots.{IsLive, IsUnused}
 use Rattle.ynl_slots.proofs.Entries.{distinct_push, itself, lookup-push-other, other as apart_numbers}
 use Rattle.ynl_slots.proofs.Lookups.{lookup-push}

@@ -11,7 +11,7 @@ use Rattle.ynl_resource.specs.declared.names.Name.{Name}
 use Rattle.ynl_resource.specs.declared.paths.Path.{Path}
 use Rattle.ynl_laws.proofs.Names.{same-path, same-name_self, same-name_sym}
 use Rattle.ynl_model.specs.Service.{last_name}
-use Rattle.ynl_layout.specs.Paths.{IsTree, HasNumber, HasParent, path_at}
+use Rattle.ynl_inventory.specs.layout.Paths.{IsTree, HasNumber, HasParent, path_at}
 use Rattle.std.specs.Map.{lookup}
 use Rattle.std.proofs.lemmas.Option.{slice_get_within}
 use Rattle.ynl_inventory.specs.Rows.{Rows, AppRow}

@@ -5,3 +5,4 @@ pub mod Opening
 pub mod Sound
 pub mod Parts
 pub mod Apps
+pub mod layout

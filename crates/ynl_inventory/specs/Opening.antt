@@ -7,7 +7,7 @@ use Rattle.ynl_model.specs.declared.queues.StopRow.{StopRow}
 use Rattle.ynl_model.specs.declared.queues.MaximumRow.{MaximumRow}
 use Rattle.ynl_model.specs.Cluster.{opening}
 use Rattle.ynl_model.specs.Queues.{Config}
-use Rattle.ynl_layout.specs.Paths.{paths_of}
+use Rattle.ynl_inventory.specs.layout.Paths.{paths_of}
 use Rattle.ynl_inventory.specs.Rows.{Rows, PartitionRow}
 use Rattle.ynl_inventory.specs.Meaning.{state_of}
 

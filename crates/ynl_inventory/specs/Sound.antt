@@ -10,7 +10,7 @@ use Rattle.ynl_model.specs.Queues.{Config}
 use Rattle.ynl_model.specs.Service.{takes_guests}
 use Rattle.ynl_laws.specs.Numbers.{Differ}
 use Rattle.ynl_laws.specs.Working.{Pairs}
-use Rattle.ynl_layout.specs.Paths.{IsTree, HasNumber, path_at, paths_of}
+use Rattle.ynl_inventory.specs.layout.Paths.{IsTree, HasNumber, path_at, paths_of}
 use Rattle.ynl_slots.specs.Slots.{HasDistinctNumbers, IsLive, IsUnused}
 use Rattle.ynl_tables.specs.declared.apps.asks.Ask.{Ask}
 use Rattle.ynl_tables.specs.apps.Asks.{find_ask, AreAsks}

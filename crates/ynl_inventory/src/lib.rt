@@ -7,6 +7,7 @@ pub use submission::NewSubmission;
 
 mod changes;
 mod inventory;
+pub mod layout;
 mod partition;
 mod placed;
 mod places;

@@ -4,7 +4,7 @@ use Rattle.std.proofs.lemmas.List.{length-map}
 use Rattle.ynl_resource.specs.Names.{root}
 use Rattle.ynl_resource.specs.declared.paths.Path.{Path}
 use Rattle.ynl_model.specs.Queues.{Config, QueueRow}
-use Rattle.ynl_layout.specs.Paths.{HasNumber, path_at}
+use Rattle.ynl_inventory.specs.layout.Paths.{HasNumber, path_at}
 use Rattle.ynl_inventory.specs.Sound.{IsFor}
 use Rattle.ynl_cluster.specs.Cluster.{ClusterView, path_of}
 

@@ -1,7 +1,7 @@
 //! Queues by their paths.
 
 ghost use Rattle.std.specs.Prelude.{◌≡◌, ◌<◌};
-ghost use Rattle.ynl_layout.specs.Paths.{HasNumber};
+ghost use Rattle.ynl_inventory.specs.layout.Paths.{HasNumber};
 ghost use Rattle.ynl_cluster.specs.Cluster.{path_of};
 
 use ynl_cluster::Cluster;

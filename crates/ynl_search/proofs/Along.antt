@@ -3,8 +3,8 @@ use Rattle.std.proofs.Common.{◌≡◌, ℕ, zero, suc, ◌-◌, ◌<◌, ◌�
 use Rattle.ynl_resource.specs.declared.paths.Path.{Path}
 use Rattle.ynl_model.specs.Service.{last_name}
 use Rattle.ynl_laws.specs.Decided.{below}
-use Rattle.ynl_layout.specs.Paths.{IsChild, IsLine, path_at}
-use Rattle.ynl_layout.proofs.Lines.{parted}
+use Rattle.ynl_inventory.specs.layout.Paths.{IsChild, IsLine, path_at}
+use Rattle.ynl_inventory.proofs.layout.Lines.{parted}
 
 take-take : (k : ℕ) (path : Path) → take k (take (suc k) path) ≡ take k path
 take-take zero path = refl

@@ -13,7 +13,7 @@ use Rattle.ynl_model.specs.declared.nodes.Node.{Node}
 use Rattle.ynl_model.specs.Service.{Item, asks_for, has_room, is_eligible, items_for, last_name}
 use Rattle.ynl_laws.specs.Decided.{below}
 use Rattle.ynl_laws.proofs.Names.{same-name_self, same-path, within-self, within-trans}
-use Rattle.ynl_layout.specs.Paths.{AreChildren, CoverBelow, HasNumber, IsChild, IsTree, names_of, path_at}
+use Rattle.ynl_inventory.specs.layout.Paths.{AreChildren, CoverBelow, HasNumber, IsChild, IsTree, names_of, path_at}
 use Rattle.ynl_search.specs.descent.Scenes.{AreAllBelow, HasNone, Scene}
 use Rattle.ynl_search.proofs.descent.Turns.{counts-less}
 use Rattle.ynl_inventory.specs.Rows.{Rows, AppRow}

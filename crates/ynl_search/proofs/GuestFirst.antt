@@ -20,7 +20,7 @@ use Rattle.ynl_model.specs.declared.queues.StopRow.{StopRow}
 use Rattle.ynl_model.specs.declared.queues.MaximumRow.{MaximumRow}
 use Rattle.ynl_laws.specs.Descent.{IsBelow}
 use Rattle.ynl_laws.specs.First.{IsFirst, is_later}
-use Rattle.ynl_layout.specs.Paths.{path_at}
+use Rattle.ynl_inventory.specs.layout.Paths.{path_at}
 use Rattle.ynl_tables.specs.declared.apps.asks.Ask.{Ask}
 use Rattle.ynl_lanes.specs.lows.Lows.{no_size}
 use Rattle.ynl_lanes.specs.lane.Kinds.{of_kind}

@@ -7,7 +7,7 @@ use Rattle.ynl_resource.specs.Names.{is_default, root, same_label, same_path}
 use Rattle.ynl_model.specs.Applications.{Application, LeafApps, apps_of}
 use Rattle.ynl_laws.proofs.Lists.{Each-map, find-nothing}
 use Rattle.ynl_laws.proofs.Names.{same-path}
-use Rattle.ynl_layout.specs.Paths.{path_at}
+use Rattle.ynl_inventory.specs.layout.Paths.{path_at}
 use Rattle.ynl_slots.proofs.Entries.{other}
 use Rattle.ynl_slots.proofs.Lists.{filter_none}
 use Rattle.ynl_inventory.specs.Meaning.{has_none_below, leaf_numbers, leaf_of, leaves_from}

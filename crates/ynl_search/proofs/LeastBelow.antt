@@ -11,7 +11,7 @@ use Rattle.ynl_model.specs.Service.{Item, last_name}
 use Rattle.ynl_laws.specs.Decided.{below}
 use Rattle.ynl_laws.specs.Descent.{IsBelow, IsBelowSome}
 use Rattle.ynl_laws.proofs.Amounts.{fits-trans}
-use Rattle.ynl_layout.specs.Paths.{names_of, path_at}
+use Rattle.ynl_inventory.specs.layout.Paths.{names_of, path_at}
 use Rattle.ynl_search.specs.descent.Scenes.{Scene}
 use Rattle.ynl_cluster.specs.Cluster.{ClusterView, path_of, state_in}
 use Rattle.ynl_search.specs.notes.Shut.{AreAtLeast}

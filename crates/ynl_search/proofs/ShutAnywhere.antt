@@ -14,7 +14,7 @@ use Rattle.ynl_laws.specs.Decided.{below}
 use Rattle.ynl_laws.specs.Descent.{IsBelow, IsBelowSome}
 use Rattle.ynl_laws.proofs.Lists.{all-weaker}
 use Rattle.ynl_laws.proofs.Names.{within-trans}
-use Rattle.ynl_layout.specs.Paths.{names_of, path_at}
+use Rattle.ynl_inventory.specs.layout.Paths.{names_of, path_at}
 use Rattle.ynl_search.specs.descent.Scenes.{Scene}
 use Rattle.ynl_inventory.specs.Sound.{HasPartition}
 use Rattle.ynl_inventory.proofs.Finding.{not-true}

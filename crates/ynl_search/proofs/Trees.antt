@@ -7,7 +7,7 @@ use Rattle.ynl_resource.specs.declared.paths.Path.{Path}
 use Rattle.ynl_model.specs.Cluster.{guaranteed, used}
 use Rattle.ynl_model.specs.Service.{Item, last_name}
 use Rattle.ynl_laws.specs.Decided.{below}
-use Rattle.ynl_layout.specs.Paths.{IsChild, names_of, path_at}
+use Rattle.ynl_inventory.specs.layout.Paths.{IsChild, names_of, path_at}
 use Rattle.ynl_search.specs.declared.descent.standing.Standing.{Standing}
 use Rattle.ynl_search.specs.descent.Scenes.{AreAllBelow, HasNone, Scene}
 use Rattle.ynl_search.specs.descent.Turns.{IsStanding}

@@ -13,7 +13,7 @@ use Rattle.ynl_model.specs.Queues.{Config}
 use Rattle.ynl_model.specs.Service.{asks_for, has_room, key}
 use Rattle.ynl_laws.specs.Descent.{IsBelow}
 use Rattle.ynl_laws.specs.First.{IsFirst, is_later}
-use Rattle.ynl_layout.specs.Paths.{path_at}
+use Rattle.ynl_inventory.specs.layout.Paths.{path_at}
 use Rattle.ynl_tables.specs.declared.apps.asks.Ask.{Ask}
 use Rattle.ynl_lanes.specs.lane.Seats.{Seat, first_given, given}
 use Rattle.ynl_lanes.specs.declared.lane.kinds.Kind.TheVariants as kind

@@ -13,7 +13,7 @@ use Rattle.ynl_model.specs.Queues.{Config}
 use Rattle.ynl_model.specs.Service.{Item, eligible, key}
 use Rattle.ynl_laws.specs.Descent.{IsBelow}
 use Rattle.ynl_laws.specs.First.{IsFirst, is_later}
-use Rattle.ynl_layout.specs.Paths.{path_at}
+use Rattle.ynl_inventory.specs.layout.Paths.{path_at}
 use Rattle.ynl_lanes.specs.lane.Seats.{Seat}
 use Rattle.ynl_tables.specs.apps.Asks.{find_ask}
 use Rattle.ynl_tables.specs.declared.containers.container.Role.{Role}

@@ -10,7 +10,7 @@ use Rattle.ynl_resource.specs.declared.paths.Path.{Path}
 use Rattle.ynl_model.specs.declared.nodes.Node.{Node}
 use Rattle.ynl_model.specs.Cluster.{free}
 use Rattle.ynl_model.specs.Service.{asks_for, eligible, has_room}
-use Rattle.ynl_layout.specs.Paths.{AreChildren, CoverBelow, HasNumber, names_of}
+use Rattle.ynl_inventory.specs.layout.Paths.{AreChildren, CoverBelow, HasNumber, names_of}
 use Rattle.ynl_search.specs.descent.Scenes.{Branch, IsFirstBelow, Scene}
 use Rattle.ynl_inventory.specs.Rows.{NodeRow}
 use Rattle.ynl_inventory.specs.Meaning.{node_of}

@@ -3,7 +3,7 @@
 ghost use Rattle.std.specs.Prelude.{◌≡◌, ◌<◌, ◌&&◌, IsTrue, length, slice_index_or};
 ghost use Rattle.ynl_resource.specs.declared.amounts.Resource.{Resource as Amount};
 ghost use Rattle.ynl_model.specs.Cluster.{guaranteed, maximum, used};
-ghost use Rattle.ynl_layout.specs.Paths.{HasNumber, IsChild};
+ghost use Rattle.ynl_inventory.specs.layout.Paths.{HasNumber, IsChild};
 ghost use Rattle.ynl_inventory.specs.Sound.{HasPartition, IsLeaf};
 ghost use Rattle.ynl_cluster.specs.Cluster.{label_of, path_of, state_in};
 ghost use Rattle.ynl_search.specs.notes.Shut.{keeps_maximum};

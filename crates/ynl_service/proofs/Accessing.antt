@@ -24,7 +24,7 @@ use Rattle.ynl_inventory.proofs.Asking.{same-label}
 use Rattle.ynl_inventory.proofs.Finding.{not-true, own-label}
 use Rattle.ynl_inventory.proofs.Lookups.{place-there}
 use Rattle.ynl_cluster.specs.Cluster.{ClusterView, label_of}
-use Rattle.ynl_admission.proofs.LabelsKnown.{label-known}
+use Rattle.ynl_replies.proofs.admission.LabelsKnown.{label-known}
 use Rattle.ynl_service.specs.Checking.{is_known, is_on_default}
 
 default-same : (label : Label) → is_default label ≡ same_label label Unlabelled

@@ -23,8 +23,8 @@ use Rattle.ynl_inventory.specs.Meaning.{app_of, item_of, node_of}
 use Rattle.ynl_inventory.specs.Parts.{free_of}
 use Rattle.ynl_inventory.specs.Sound.{HasPartition, IsFor, IsPlaceable, IsSound}
 use Rattle.ynl_cluster.specs.Cluster.{ClusterView, label_of, state_in}
-use Rattle.ynl_admission.specs.Admitted.{CanPlaceOn}
-use Rattle.ynl_admission.specs.Named.{IsAppNamed}
+use Rattle.ynl_replies.specs.admission.Admitted.{CanPlaceOn}
+use Rattle.ynl_replies.specs.admission.Named.{IsAppNamed}
 use Rattle.ynl_service.specs.Checking.{IsProposed, IsRoleOf, is_wanted_at, request_reasons}
 use Rattle.ynl_service.proofs.Reasons.{by-request, is-closed, is-stale, no-application, not-wanted}
 use Rattle.ynl_service.proofs.Wanted.{wanted-taken, wanted-told}

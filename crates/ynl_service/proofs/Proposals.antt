@@ -7,7 +7,7 @@ use Rattle.ynl_resource.specs.declared.names.Name.{Name}
 use Rattle.ynl_model.specs.declared.proposals.Proposal.{Proposal}
 use Rattle.ynl_model.specs.declared.proposals.What.{What}
 use Rattle.ynl_model.specs.Check.{proposal_of}
-use Rattle.ynl_layout.specs.Paths.{path_at}
+use Rattle.ynl_inventory.specs.layout.Paths.{path_at}
 use Rattle.ynl_inventory.specs.Meaning.{app_name, item_of, node_of, tenant_name, what_of}
 use Rattle.ynl_inventory.specs.Rows.{AppRow, NodeRow, Rows}
 use Rattle.ynl_inventory.specs.Sound.{IsSound}

@@ -24,7 +24,7 @@ use Rattle.ynl_inventory.specs.Meaning.{app_of, item_of, what_of}
 use Rattle.ynl_inventory.specs.Parts.{free_of}
 use Rattle.ynl_inventory.specs.Sound.{IsAskedThere, IsPlaceable}
 use Rattle.ynl_cluster.specs.Cluster.{ClusterView}
-use Rattle.ynl_admission.specs.Named.{IsAppNamed, IsNodeNamed}
+use Rattle.ynl_replies.specs.admission.Named.{IsAppNamed, IsNodeNamed}
 
 -- whether the label of what is wanted is that of a partition; a master's is its application's
 abbrev pub is_known : Config → What → Bool

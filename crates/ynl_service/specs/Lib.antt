@@ -1,3 +1,4 @@
 pub mod Serving
 pub mod Checking
 pub mod Proposals
+pub mod reading

@@ -7,9 +7,9 @@ ghost use Rattle.ynl_inventory.specs.Sound.{HasPartition, IsAskedThere};
 ghost use Rattle.ynl_cluster.specs.Cluster.{label_of};
 ghost use Rattle.ynl_service.specs.Checking.{is_for_at, is_known, is_on_default, IsRoleOf};
 
-use ynl_admission::partition_of;
 use ynl_cluster::Cluster;
 use ynl_model::What;
+use ynl_replies::admission::partition_of;
 use ynl_resource::Name;
 use ynl_tables::containers::Role;
 

@@ -19,10 +19,10 @@ ghost use Rattle.ynl_service.specs.Checking.{is_wanted_at, IsProposed, request_r
 
 use crate::access::{accessible, comes_as_guest};
 use crate::limits::limit_refusal;
-use ynl_admission::{app_named, placing};
 use ynl_cluster::Cluster;
 use ynl_inventory::Placement;
 use ynl_model::Proposal;
+use ynl_replies::admission::{app_named, placing};
 use ynl_resource::{Refusal, Size};
 use ynl_search::notes::Shut;
 use ynl_search::some_own;

@@ -1,4 +1,4 @@
-//! What is placed on nodes: by heartbeats, and by commits.
+//! What is placed on nodes, by heartbeats and by commits; and why requests wait.
 #![tactic(auto)]
 
 pub use checking::check;
@@ -10,4 +10,5 @@ mod access;
 mod checking;
 mod limits;
 mod proposing;
+pub mod reading;
 mod serving;

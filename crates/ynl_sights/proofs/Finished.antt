@@ -30,7 +30,7 @@ use Rattle.ynl_laws.proofs.Logic.{and-false, not-false, not-true as not-true_is}
 use Rattle.ynl_laws.proofs.Names.{same-name_sym, same-path, within-self}
 use Rattle.ynl_laws.proofs.Totals.Marks.{on-finish}
 use Rattle.ynl_laws.proofs.Totals.Owners.{find-finished}
-use Rattle.ynl_layout.specs.Paths.{HasNumber, path_at}
+use Rattle.ynl_inventory.specs.layout.Paths.{HasNumber, path_at}
 use Rattle.ynl_slots.specs.Slots.{without}
 use Rattle.ynl_slots.proofs.Entries.{lookup-without-other, other as differ}
 use Rattle.ynl_tables.specs.declared.containers.container.Container.{Container}

@@ -11,7 +11,7 @@ use Rattle.ynl_resource.specs.declared.labels.Label.TheVariants.{Unlabelled}
 use Rattle.ynl_resource.specs.declared.paths.Path.{Path}
 use Rattle.ynl_model.specs.Queues.{Config}
 use Rattle.ynl_model.specs.Service.{takes_guests}
-use Rattle.ynl_layout.specs.Paths.{HasNumber, path_at}
+use Rattle.ynl_inventory.specs.layout.Paths.{HasNumber, path_at}
 use Rattle.ynl_slots.proofs.Entries.{other}
 use Rattle.ynl_slots.proofs.Lists.{filter_none}
 use Rattle.ynl_inventory.specs.Rows.{Rows, AppRow, PartitionRow}

@@ -10,7 +10,7 @@ use Rattle.ynl_model.specs.Service.{place_in_leaf}
 use Rattle.ynl_model.specs.declared.queues.StopRow.{StopRow}
 use Rattle.ynl_model.specs.declared.queues.MaximumRow.{MaximumRow}
 use Rattle.ynl_laws.proofs.Lists.{Each-kept, map-map}
-use Rattle.ynl_layout.specs.Paths.{path_at}
+use Rattle.ynl_inventory.specs.layout.Paths.{path_at}
 use Rattle.ynl_slots.specs.Slots.{HasDistinctNumbers}
 use Rattle.ynl_slots.proofs.Entries.{itself, other}
 use Rattle.ynl_lanes.specs.lane.Seats.{Seat, Seats}

@@ -4,7 +4,7 @@ ghost use Rattle.std.specs.Prelude.{◌≡◌, [], ◌∷◌, ◌++◌, true, ma
 ghost use Rattle.std.specs.Bool.{OnTrue};
 ghost use Rattle.std.specs.Map.{lookup};
 ghost use Rattle.ynl_slots.specs.Slots.{IsLive};
-ghost use Rattle.ynl_layout.specs.Paths.{HasNumber};
+ghost use Rattle.ynl_inventory.specs.layout.Paths.{HasNumber};
 ghost use Rattle.ynl_lanes.specs.lane.Rows.{IsUse};
 ghost use Rattle.ynl_inventory.specs.Rows.{AppRow};
 ghost use Rattle.ynl_inventory.specs.Sound.{HasPartition, IsAskedOn};

@@ -19,10 +19,10 @@ use crate::restoring::queues::{take_maximum, take_stopped};
 use crate::restoring::starting::nothing_restored;
 use std::alloc::{AllocError, Global};
 use std::marker::Model;
-use ynl_admission::CellNumbers;
 use ynl_cluster::Cluster;
 use ynl_model::{LabelRow, Node};
 use ynl_queues::Config;
+use ynl_replies::admission::CellNumbers;
 use ynl_resource::{Hundredths, Label, Path};
 use ynl_saved::StateLine;
 

@@ -7,9 +7,9 @@ use Rattle.ynl_model.specs.declared.entries.Entry.{Entry}
 use Rattle.ynl_core.specs.World.{World}
 use Rattle.ynl_lines.specs.declared.faults.InputFault.TheVariants.{Script as InScript}
 use Rattle.ynl_lines.specs.Writing.{line_text}
-use Rattle.ynl_session.specs.Sessions.{IsSession}
-use Rattle.ynl_session.specs.declared.sessions.SessionFault.{SessionFault}
-use Rattle.ynl_session.specs.declared.sessions.SessionFault.TheVariants as session
+use Rattle.ynl_workers.specs.session.Sessions.{IsSession}
+use Rattle.ynl_workers.specs.declared.session.sessions.SessionFault.{SessionFault}
+use Rattle.ynl_workers.specs.declared.session.sessions.SessionFault.TheVariants as session
 use Rattle.ynl_commands.specs.declared.run.ToolFault.{ToolFault}
 use Rattle.ynl_commands.specs.declared.run.ToolFault.TheVariants.{Read, Write, NoMemory, Unclosed}
 use Rattle.ynl_commands.specs.declared.run.Summary.{Summary}

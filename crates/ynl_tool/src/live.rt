@@ -18,7 +18,7 @@ use ynl_journal::Start;
 use ynl_lines::{InputFault, put_line};
 use ynl_model::Entry;
 use ynl_packed::{Entries, any_entry};
-use ynl_session::{Gate, Go, SessionFault, Sight, run_session};
+use ynl_workers::session::{Gate, Go, SessionFault, Sight, run_session};
 
 /// Lets each worker go on.
 pub(crate) struct FreeGate;

@@ -5,8 +5,8 @@ use crate::values::{HEARTBEAT, NODE, configured, event_of, label, name, tell_ref
 use std::alloc::Global;
 use std::process::Abort;
 use ynl_core::NoMemory;
-use ynl_evidence::{EvidenceFault, Flaw, audit_evidence, evidence};
 use ynl_journal::Entry;
+use ynl_view::evidence::{EvidenceFault, Flaw, audit_evidence, evidence};
 use ynl_view::sole;
 
 /// A node of the partition and one of DEFAULT, and a heartbeat of each.

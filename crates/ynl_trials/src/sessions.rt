@@ -12,8 +12,8 @@ use std::thread::Threads;
 use ynl_journal::Start;
 use ynl_model::{Entry, Event};
 use ynl_packed::Events;
-use ynl_session::run_session;
 use ynl_workers::Gate;
+use ynl_workers::session::run_session;
 
 /// Two nodes, and an application that waits for its master and asks for two containers.
 const LINES: [&str; 4] = [

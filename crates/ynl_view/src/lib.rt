@@ -1,4 +1,4 @@
-//! What a tenant's partition sees of a list of events, and the cluster of that tenant alone.
+//! What a tenant's partition sees of a list of events, the cluster of that tenant alone, and the evidence of it in a journal.
 #![tactic(auto)]
 
 pub use exclusivity::sole;
@@ -8,7 +8,9 @@ pub use track::Track;
 pub use viewing::{see, see_into, view};
 pub use views::View;
 
+pub mod evidence;
 mod exclusivity;
+pub mod nodes;
 mod picking;
 mod restriction;
 mod sights;

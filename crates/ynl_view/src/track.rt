@@ -7,10 +7,10 @@ ghost use Rattle.ynl_model.specs.Promises.{without_stamp};
 ghost use Rattle.ynl_model.specs.View.{tracked, is_in, has_place, registers, relabels, dropped, joined, track_step};
 ghost use Rattle.ynl_model.specs.declared.events.Event.TheVariants.{Register, Relabel};
 
+use crate::nodes::Nodes;
 use std::alloc::{AllocError, Global};
 use std::marker::Model;
 use ynl_model::{Event, Node, Tracked};
-use ynl_nodes::Nodes;
 use ynl_queues::Config;
 use ynl_resource::{Label, Name, Size};
 

@@ -13,4 +13,5 @@ pub use ynl_sights::Sight;
 
 mod gates;
 mod rounds;
+pub mod session;
 mod working;

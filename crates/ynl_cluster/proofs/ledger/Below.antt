@@ -8,7 +8,7 @@ use Rattle.ynl_model.specs.declared.uses.Use.{Use}
 use Rattle.ynl_laws.specs.Ways.{along}
 use Rattle.ynl_laws.proofs.Totals.Along.{along_things}
 use Rattle.ynl_laws.proofs.Totals.Inserted.{Inserted}
-use Rattle.ynl_layout.specs.Paths.{is_above}
+use Rattle.ynl_inventory.specs.layout.Paths.{is_above}
 use Rattle.ynl_slots.specs.Slots.{IsLive}
 use Rattle.ynl_tables.specs.apps.Apps.{with_change}
 use Rattle.ynl_tables.specs.declared.containers.container.Container.{Container}

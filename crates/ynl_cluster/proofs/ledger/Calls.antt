@@ -10,7 +10,7 @@ use Rattle.ynl_resource.specs.declared.names.Name.{Name}
 use Rattle.ynl_resource.specs.declared.paths.Path.{Path}
 use Rattle.ynl_model.specs.declared.uses.Use.{Use}
 use Rattle.ynl_laws.specs.Ways.{IsWay, along}
-use Rattle.ynl_layout.specs.Paths.{HasNumber, is_above}
+use Rattle.ynl_inventory.specs.layout.Paths.{HasNumber, is_above}
 use Rattle.ynl_slots.specs.Slots.{IsLive}
 use Rattle.ynl_tables.specs.declared.containers.container.Container.{Container}
 use Rattle.ynl_tables.specs.declared.containers.container.Role.{Role}

@@ -26,7 +26,7 @@ use Rattle.ynl_laws.proofs.Amounts.{total-map}
 use Rattle.ynl_laws.proofs.Lists.{filter-agree, filter-map}
 use Rattle.ynl_laws.proofs.Names.{same-label_path, same-label_self}
 use Rattle.ynl_laws.proofs.Totals.Used.{use-is, use-with}
-use Rattle.ynl_layout.specs.Paths.{HasNumber, is_above, path_at}
+use Rattle.ynl_inventory.specs.layout.Paths.{HasNumber, is_above, path_at}
 use Rattle.ynl_tables.specs.declared.containers.container.Container.{Container}
 use Rattle.ynl_tables.specs.declared.containers.container.Role.{Role}
 use Rattle.ynl_tables.specs.declared.containers.container.Role.TheVariants as role

@@ -13,7 +13,7 @@ use Rattle.ynl_model.specs.declared.uses.Use.{Use}
 use Rattle.ynl_laws.specs.Ways.{along}
 use Rattle.ynl_laws.proofs.Lists.{Each-all, Each-weaker}
 use Rattle.ynl_laws.proofs.Totals.Inserted.{Inserted}
-use Rattle.ynl_layout.specs.Paths.{is_above}
+use Rattle.ynl_inventory.specs.layout.Paths.{is_above}
 use Rattle.ynl_slots.specs.Slots.{HasDistinctNumbers, IsLive, IsUnused, without}
 use Rattle.ynl_slots.proofs.Entries.{lookup-without-other, without-unused}
 use Rattle.ynl_tables.specs.apps.Apps.{with_change}

@@ -19,7 +19,7 @@ use Rattle.ynl_laws.specs.Descent.{IsBelow}
 use Rattle.ynl_laws.specs.First.{IsFirst, is_later}
 use Rattle.ynl_laws.proofs.Names.{same-path, within-self}
 use Rattle.ynl_laws.proofs.Service.Decided.{does_submission_decide}
-use Rattle.ynl_layout.specs.Paths.{path_at}
+use Rattle.ynl_inventory.specs.layout.Paths.{path_at}
 use Rattle.ynl_tables.specs.declared.containers.container.Role.{Role}
 use Rattle.ynl_tables.specs.declared.containers.container.Role.TheVariants.{Master, Ask as Asked}
 use Rattle.ynl_inventory.specs.Rows.{Rows, AppRow}

@@ -15,7 +15,7 @@ use Rattle.ynl_model.specs.declared.queues.MaximumRow.{MaximumRow}
 use Rattle.ynl_resource.specs.declared.paths.Path.{Path}
 use Rattle.ynl_laws.proofs.Lists.{Each-kept}
 use Rattle.ynl_laws.proofs.Names.{same-name_self}
-use Rattle.ynl_layout.specs.Paths.{path_at}
+use Rattle.ynl_inventory.specs.layout.Paths.{path_at}
 use Rattle.ynl_slots.specs.Slots.{HasDistinctNumbers, IsUnused}
 use Rattle.ynl_inventory.specs.Rows.{Rows, AppRow}
 use Rattle.ynl_inventory.specs.Meaning.{app_of, owner_of, state_of}

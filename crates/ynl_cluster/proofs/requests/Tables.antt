@@ -21,7 +21,7 @@ use Rattle.ynl_laws.specs.Untied.{AllDistinct, Differs, Distinct}
 use Rattle.ynl_laws.specs.Working.{Pairs}
 use Rattle.ynl_laws.proofs.Lists.{Each-all, Each-both, Each-found, Each-map, Each-weaker, Pairs-filter, find-map, found-passes, pairs-unmap}
 use Rattle.ynl_laws.proofs.Names.{same-label_path, same-path}
-use Rattle.ynl_layout.specs.Paths.{HasNumber, path_at}
+use Rattle.ynl_inventory.specs.layout.Paths.{HasNumber, path_at}
 use Rattle.ynl_tables.specs.declared.apps.asks.Ask.{Ask}
 use Rattle.ynl_tables.specs.apps.Asks.{AreApart, is_ask_of}
 use Rattle.ynl_tables.specs.declared.containers.container.Container.{Container}

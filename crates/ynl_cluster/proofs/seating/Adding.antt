@@ -8,7 +8,7 @@ use Rattle.std.proofs.lemmas.Option.{same_Some}
 use Rattle.ynl_slots.specs.Slots.{HasDistinctNumbers}
 use Rattle.ynl_slots.proofs.Entries.{distinct_push, itself, other}
 use Rattle.ynl_tables.specs.declared.apps.app.Tickets.{Tickets}
-use Rattle.ynl_layout.specs.Paths.{HasNumber}
+use Rattle.ynl_inventory.specs.layout.Paths.{HasNumber}
 use Rattle.ynl_lanes.specs.lane.Seats.{Adds, Seat, Seats, nothing_waits, used_at}
 use Rattle.ynl_lanes.specs.table.Lanes.{AddsOne, Changes, lane_at}
 use Rattle.ynl_inventory.specs.Rows.{Rows, AppRow}

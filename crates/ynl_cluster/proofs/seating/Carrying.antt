@@ -10,7 +10,7 @@ use Rattle.ynl_laws.proofs.Lists.{Each-weaker}
 use Rattle.ynl_slots.specs.Slots.{HasDistinctNumbers}
 use Rattle.ynl_tables.specs.apps.Apps.{with_change}
 use Rattle.ynl_tables.specs.declared.containers.container.Container.{Container}
-use Rattle.ynl_layout.specs.Paths.{HasNumber}
+use Rattle.ynl_inventory.specs.layout.Paths.{HasNumber}
 use Rattle.ynl_lanes.specs.lane.Seats.{Seats, nothing_waits}
 use Rattle.ynl_inventory.specs.Rows.{Rows, AppRow}
 use Rattle.ynl_inventory.specs.Parts.{containers_of}

@@ -5,7 +5,7 @@ use Rattle.std.proofs.lemmas.Bool.{cases_eq}
 use Rattle.std.proofs.lemmas.List.{get_or-set_same, get_or-set_other, length-set}
 use mathlib.Core.Logic.{◌⊎◌}
 use Rattle.ynl_slots.specs.Slots.{HasDistinctNumbers}
-use Rattle.ynl_layout.specs.Paths.{HasNumber}
+use Rattle.ynl_inventory.specs.layout.Paths.{HasNumber}
 use Rattle.ynl_lanes.specs.lane.Seats.{Seats}
 use Rattle.ynl_lanes.specs.table.Lanes.{Changes, IsLaneAt, lane_at, no_seats, with_lane}
 use Rattle.ynl_inventory.specs.Rows.{Rows, AppRow}

@@ -7,7 +7,7 @@ use Rattle.std.proofs.lemmas.Option.{same_Some}
 use Rattle.ynl_resource.specs.declared.amounts.Resource.{Resource}
 use Rattle.ynl_laws.proofs.Logic.{and-false}
 use Rattle.ynl_slots.proofs.Entries.{itself, other}
-use Rattle.ynl_layout.specs.Paths.{HasNumber}
+use Rattle.ynl_inventory.specs.layout.Paths.{HasNumber}
 use Rattle.ynl_lanes.specs.declared.lane.kinds.Both.{Both}
 use Rattle.ynl_lanes.specs.lane.Seats.{IsSeat, Seat, Seats, with_used, with_waits}
 use Rattle.ynl_lanes.specs.table.Lanes.{Changes, Enters, IsLaneAt, SetsUsed, lane_at}

@@ -15,7 +15,7 @@ use Rattle.ynl_model.specs.Applications.{Application, LeafApps}
 use Rattle.ynl_model.specs.Limits.{distinct, sharing, users}
 use Rattle.ynl_laws.proofs.Lists.{Each-map, filter-agree, filter-map, find-map, map-map}
 use Rattle.ynl_laws.proofs.Names.{same-path}
-use Rattle.ynl_layout.specs.Paths.{path_at}
+use Rattle.ynl_inventory.specs.layout.Paths.{path_at}
 use Rattle.ynl_lanes.specs.lane.Seats.{Seat, each_once}
 use Rattle.ynl_lanes.proofs.lane.Distinct.{counts_names}
 use Rattle.ynl_inventory.specs.Rows.{Rows, AppRow}

@@ -24,7 +24,7 @@ use Rattle.ynl_slots.proofs.Entries.{itself}
 use Rattle.ynl_tables.specs.declared.containers.container.Container.{Container}
 use Rattle.ynl_tables.specs.declared.containers.container.Role.{Role}
 use Rattle.ynl_tables.specs.declared.containers.container.Role.TheVariants.{Master, Ask as Asked}
-use Rattle.ynl_layout.specs.Paths.{path_at}
+use Rattle.ynl_inventory.specs.layout.Paths.{path_at}
 use Rattle.ynl_inventory.specs.Rows.{Rows, PartitionRow, AppRow}
 use Rattle.ynl_inventory.specs.Meaning.{app_name, application_of, has_none_below, label_at, owner_of, placed_of, state_of, submitted_to, what_of}
 use Rattle.ynl_inventory.specs.Apps.{is_guest_role}

@@ -6,7 +6,7 @@ use Rattle.ynl_resource.specs.declared.amounts.Resource.{Resource}
 use Rattle.ynl_resource.specs.declared.names.Name.{Name}
 use Rattle.ynl_model.specs.declared.uses.Use.{Use}
 use Rattle.ynl_laws.specs.Ways.{IsWay, along}
-use Rattle.ynl_layout.specs.Paths.{is_above}
+use Rattle.ynl_inventory.specs.layout.Paths.{is_above}
 use Rattle.ynl_slots.specs.Slots.{IsLive}
 use Rattle.ynl_tables.specs.declared.apps.asks.Ask.{Ask}
 use Rattle.ynl_tables.specs.declared.apps.app.Tickets.{Tickets}

@@ -9,7 +9,7 @@ use Rattle.ynl_resource.specs.Ranges.{most_nodes}
 use Rattle.ynl_resource.specs.declared.amounts.Resource.{Resource}
 use Rattle.ynl_resource.specs.declared.paths.Path.{Path}
 use Rattle.ynl_model.specs.declared.uses.Use.{Use}
-use Rattle.ynl_layout.specs.Paths.{is_above}
+use Rattle.ynl_inventory.specs.layout.Paths.{is_above}
 use Rattle.ynl_tables.specs.declared.containers.container.Container.{Container}
 use Rattle.ynl_tables.specs.declared.containers.container.Role.{Role}
 use Rattle.ynl_cluster.specs.uses.Tallies.{no_use, raised}

@@ -9,7 +9,7 @@ use Rattle.ynl_model.specs.declared.queues.MaximumRow.{MaximumRow}
 use Rattle.ynl_model.specs.Nodes.{is_full, nodes_of}
 use Rattle.ynl_model.specs.Cluster.{State, total}
 use Rattle.ynl_laws.specs.Uses.{use_of}
-use Rattle.ynl_layout.specs.Paths.{HasNumber, path_at}
+use Rattle.ynl_inventory.specs.layout.Paths.{HasNumber, path_at}
 use Rattle.ynl_cluster.specs.uses.Tallies.{IsInside}
 use Rattle.ynl_inventory.specs.Rows.{Rows}
 use Rattle.ynl_inventory.specs.Meaning.{label_at, state_of}

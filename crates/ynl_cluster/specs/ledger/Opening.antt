@@ -4,7 +4,7 @@ use Rattle.ynl_resource.specs.Names.{root}
 use Rattle.ynl_model.specs.declared.uses.Use.{Use}
 use Rattle.ynl_model.specs.Nodes.{partition_labels}
 use Rattle.ynl_model.specs.Queues.{Config}
-use Rattle.ynl_layout.specs.Paths.{paths_of}
+use Rattle.ynl_inventory.specs.layout.Paths.{paths_of}
 use Rattle.ynl_cluster.specs.uses.Tallies.{no_use, IsTable}
 use Rattle.ynl_inventory.specs.Opening.{opening_rows}
 use Rattle.ynl_cluster.specs.ledger.Totals.{no_total}

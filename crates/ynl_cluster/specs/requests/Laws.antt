@@ -8,7 +8,7 @@ use Rattle.ynl_model.specs.declared.queues.MaximumRow.{MaximumRow}
 use Rattle.ynl_model.specs.Applications.{apps_of}
 use Rattle.ynl_model.specs.Cluster.{runs}
 use Rattle.ynl_model.specs.Service.{Item, asks_for, items_for, place_in_leaf}
-use Rattle.ynl_layout.specs.Paths.{path_at}
+use Rattle.ynl_inventory.specs.layout.Paths.{path_at}
 use Rattle.ynl_inventory.specs.Rows.{Rows, AppRow}
 use Rattle.ynl_inventory.specs.Meaning.{app_of, label_at, state_of}
 use Rattle.ynl_inventory.specs.Sound.{HasPartition, IsSound}

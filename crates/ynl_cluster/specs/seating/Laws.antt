@@ -13,7 +13,7 @@ use Rattle.ynl_model.specs.Limits.{sharing, users}
 use Rattle.ynl_model.specs.Queues.{Config}
 use Rattle.ynl_slots.specs.Slots.{IsUnused}
 use Rattle.ynl_tables.specs.declared.apps.asks.Ask.{Ask}
-use Rattle.ynl_layout.specs.Paths.{HasNumber, path_at}
+use Rattle.ynl_inventory.specs.layout.Paths.{HasNumber, path_at}
 use Rattle.ynl_lanes.specs.lows.Lows.{IsBelow, no_size}
 use Rattle.ynl_lanes.specs.declared.lane.kinds.Kind.TheVariants as kind
 use Rattle.ynl_lanes.specs.lane.Seats.{Seat, Seats, each_once, is_waiting}

@@ -8,7 +8,7 @@ use Rattle.ynl_resource.specs.declared.amounts.Resource.{Resource}
 use Rattle.ynl_slots.specs.Slots.{HasDistinctNumbers}
 use Rattle.ynl_tables.specs.declared.apps.asks.Ask.{Ask}
 use Rattle.ynl_tables.specs.declared.containers.container.Container.{Container}
-use Rattle.ynl_layout.specs.Paths.{HasNumber}
+use Rattle.ynl_inventory.specs.layout.Paths.{HasNumber}
 use Rattle.ynl_lanes.specs.lows.Lows.{no_size}
 use Rattle.ynl_lanes.specs.declared.lane.kinds.Both.{Both}
 use Rattle.ynl_lanes.specs.lane.Seats.{Seat, Seats, nothing_waits}

@@ -6,7 +6,7 @@ use Rattle.ynl_resource.specs.declared.amounts.Resource.{Resource}
 use Rattle.ynl_slots.specs.Slots.{HasDistinctNumbers, IsUnused}
 use Rattle.ynl_tables.specs.declared.containers.container.Container.{Container}
 use Rattle.ynl_tables.specs.declared.containers.container.Role.{Role}
-use Rattle.ynl_layout.specs.Paths.{HasNumber}
+use Rattle.ynl_inventory.specs.layout.Paths.{HasNumber}
 use Rattle.ynl_lanes.specs.declared.lane.kinds.Both.{Both}
 use Rattle.ynl_lanes.specs.lane.Seats.{Seats}
 use Rattle.ynl_lanes.specs.table.Lanes.{lane_at}

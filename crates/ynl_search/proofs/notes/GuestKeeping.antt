@@ -9,7 +9,7 @@ use Rattle.ynl_resource.specs.declared.paths.Path.{Path}
 use Rattle.ynl_model.specs.Applications.{Application, in_leaf, set_ask, submitted, with_app}
 use Rattle.ynl_model.specs.Changes.{app_finishes, end, place}
 use Rattle.ynl_model.specs.Cluster.{State, is_master_what}
-use Rattle.ynl_layout.specs.Paths.{HasNumber}
+use Rattle.ynl_inventory.specs.layout.Paths.{HasNumber}
 use Rattle.ynl_laws.specs.Working.{IsWorking}
 use Rattle.ynl_tables.specs.declared.containers.container.Container.{Container}
 use Rattle.ynl_tables.specs.declared.containers.container.Role.{Role}

@@ -11,7 +11,7 @@ use Rattle.ynl_model.specs.Applications.{Application, LeafApps, in_leaf, leaf_of
 use Rattle.ynl_model.specs.Changes.{app_finishes, end, place}
 use Rattle.ynl_model.specs.Cluster.{State, containers_on, is_master_what}
 use Rattle.ynl_laws.specs.Tabled.{Tabled}
-use Rattle.ynl_layout.specs.Paths.{HasNumber, path_at}
+use Rattle.ynl_inventory.specs.layout.Paths.{HasNumber, path_at}
 use Rattle.ynl_laws.specs.Working.{IsWorking, has_row}
 use Rattle.ynl_tables.specs.declared.containers.container.Container.{Container}
 use Rattle.ynl_tables.specs.declared.containers.container.Role.{Role}

@@ -12,7 +12,7 @@ use Rattle.ynl_resource.specs.declared.labels.Label.TheVariants.{Unlabelled}
 use Rattle.ynl_model.specs.Nodes.{partition_labels}
 use Rattle.ynl_model.specs.Queues.{Config}
 use Rattle.ynl_model.specs.Cluster.{State}
-use Rattle.ynl_layout.specs.Paths.{HasNumber, path_at, paths_of}
+use Rattle.ynl_inventory.specs.layout.Paths.{HasNumber, path_at, paths_of}
 use Rattle.ynl_inventory.specs.Rows.{PartitionRow}
 use Rattle.ynl_inventory.specs.Sound.{IsFor, IsSound}
 use Rattle.ynl_inventory.proofs.Submitted.{app-submission}

@@ -11,7 +11,7 @@ use Rattle.ynl_model.specs.Queues.{Config}
 use Rattle.ynl_model.specs.Cluster.{State, maximum, used}
 use Rattle.ynl_model.specs.Service.{Item, asks_for, items_for, within_master_share, within_user_limit}
 use Rattle.ynl_laws.specs.Descent.{IsBelow}
-use Rattle.ynl_layout.specs.Paths.{HasNumber}
+use Rattle.ynl_inventory.specs.layout.Paths.{HasNumber}
 use Rattle.ynl_cluster.specs.Cluster.{ClusterView, IsCell, label_of, path_of, state_in}
 use Rattle.ynl_search.specs.declared.notes.noted.Noted.{Noted}
 use Rattle.ynl_search.specs.notes.Notes.{Notes, Row, Table, noted_at, noted_in}

@@ -11,15 +11,15 @@ use Rattle.ynl_resource.specs.declared.labels.Label.TheVariants.{Unlabelled}
 use Rattle.ynl_resource.specs.declared.paths.Path.{Path}
 use Rattle.ynl_model.specs.Nodes.{partition_labels}
 use Rattle.ynl_laws.proofs.Lists.{Each-append, Each-weaker}
-use Rattle.ynl_layout.specs.Paths.{HasNumber, path_at, paths_of}
-use Rattle.ynl_layout.proofs.settings.StopsMean.{other-path, own-path}
+use Rattle.ynl_inventory.specs.layout.Paths.{HasNumber, path_at, paths_of}
+use Rattle.ynl_inventory.proofs.layout.settings.StopsMean.{other-path, own-path}
 use Rattle.ynl_inventory.specs.Rows.{PartitionRow}
 use Rattle.ynl_inventory.specs.Sound.{IsFor, IsSound}
 use Rattle.ynl_inventory.proofs.Asking.{same-label}
 use Rattle.ynl_cluster.proofs.requests.Members.{any-agree}
 use Rattle.ynl_cluster.specs.Cluster.{ClusterView, label_of}
-use Rattle.ynl_admission.specs.declared.queues.CellNumbers.{CellNumbers}
-use Rattle.ynl_admission.specs.Named.{IsCellBelowRoot}
+use Rattle.ynl_replies.specs.declared.admission.queues.CellNumbers.{CellNumbers}
+use Rattle.ynl_replies.specs.admission.Named.{IsCellBelowRoot}
 use Rattle.ynl_snapshots.specs.restoring.Telling.{AreMaxima, IsCellIn, cell_label, is_cell_of}
 use Rattle.ynl_snapshots.proofs.saving.QueuePlaces.{label-there}
 

@@ -22,7 +22,7 @@ use Rattle.ynl_inventory.proofs.Finding.{clock-at, limit-at, own-label}
 use Rattle.ynl_inventory.proofs.Lookups.{each-place, place-there}
 use Rattle.ynl_inventory.proofs.Updates.{at-number, each-number}
 use Rattle.ynl_cluster.specs.Cluster.{ClusterView, maxima_in, state_in, stops_in}
-use Rattle.ynl_admission.specs.Named.{IsPartitionOf}
+use Rattle.ynl_replies.specs.admission.Named.{IsPartitionOf}
 use Rattle.ynl_saved.specs.declared.lines.StateLine.TheVariants.{Partition as PartitionLine}
 use Rattle.ynl_saved.specs.Restoring.{is_sound_line, Restored}
 

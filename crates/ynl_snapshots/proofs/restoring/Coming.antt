@@ -13,17 +13,17 @@ use Rattle.ynl_model.specs.Applications.{apps_of, in_leaf, is_used, new_app, sub
 use Rattle.ynl_model.specs.Cluster.{State}
 use Rattle.ynl_model.specs.Events.{has_most_apps}
 use Rattle.ynl_model.specs.Queues.{Config, is_leaf, is_queue, may_use, setting}
-use Rattle.ynl_layout.specs.Paths.{HasNumber, path_at}
+use Rattle.ynl_inventory.specs.layout.Paths.{HasNumber, path_at}
 use Rattle.ynl_tables.specs.submissions.Submissions.{turn_of}
 use Rattle.ynl_inventory.specs.Changes.{with_user, with_user_known}
 use Rattle.ynl_inventory.specs.Meaning.{has_none_below, submitted_to, tenant_at}
 use Rattle.ynl_inventory.specs.Sound.{CanSubmit, HasPartition, IsFor, IsLeaf, IsSound}
 use Rattle.ynl_cluster.specs.Cluster.{ClusterView, label_of, path_of, state_in}
-use Rattle.ynl_admission.specs.Admitted.{CanSubmitAs}
-use Rattle.ynl_admission.specs.Named.{IsQueueOf}
-use Rattle.ynl_admission.specs.declared.submissions.SubmissionNumbers.{SubmissionNumbers}
-use Rattle.ynl_admission.proofs.AppsNamed.{used-is}
-use Rattle.ynl_admission.proofs.Submitting.{leaf-told}
+use Rattle.ynl_replies.specs.admission.Admitted.{CanSubmitAs}
+use Rattle.ynl_replies.specs.admission.Named.{IsQueueOf}
+use Rattle.ynl_replies.specs.declared.admission.submissions.SubmissionNumbers.{SubmissionNumbers}
+use Rattle.ynl_replies.proofs.admission.AppsNamed.{used-is}
+use Rattle.ynl_replies.proofs.admission.Submitting.{leaf-told}
 use Rattle.ynl_saved.specs.declared.lines.StateLine.TheVariants.{Live}
 use Rattle.ynl_saved.specs.Restoring.{is_sound_line, has_place, may_come, with_live, Restored}
 

@@ -21,7 +21,7 @@ use Rattle.ynl_laws.proofs.Lists.{Each-weaker, filter-all}
 use Rattle.ynl_laws.proofs.Logic.{none-is, not-true}
 use Rattle.ynl_laws.proofs.Names.{same-name_self}
 use Rattle.ynl_tables.specs.declared.apps.app.Tickets.{Tickets}
-use Rattle.ynl_layout.specs.Paths.{path_at}
+use Rattle.ynl_inventory.specs.layout.Paths.{path_at}
 use Rattle.ynl_slots.specs.Slots.{IsLive, IsUnused}
 use Rattle.ynl_slots.proofs.Entries.{itself}
 use Rattle.ynl_slots.proofs.Lookups.{lookup-push}
@@ -33,7 +33,7 @@ use Rattle.ynl_inventory.specs.Sound.{IsSound}
 use Rattle.ynl_inventory.proofs.Lookups.{changed-same, found-live}
 use Rattle.ynl_inventory.proofs.Submitting.{submitted-own}
 use Rattle.ynl_cluster.specs.Cluster.{ClusterView, path_of, state_in}
-use Rattle.ynl_admission.specs.Admitted.{CanSubmitAs}
+use Rattle.ynl_replies.specs.admission.Admitted.{CanSubmitAs}
 use Rattle.ynl_saved.specs.declared.lines.StateLine.TheVariants.{Finished as FinishedLine}
 use Rattle.ynl_saved.specs.Restoring.{is_sound_line, may_come, with_finished, with_live, Restored}
 use Rattle.ynl_snapshots.specs.declared.restoring.applications.Coming.{Coming}

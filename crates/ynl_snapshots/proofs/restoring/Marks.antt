@@ -10,12 +10,12 @@ use Rattle.ynl_model.specs.declared.queues.StopRow.{StopRow}
 use Rattle.ynl_model.specs.Cluster.{State}
 use Rattle.ynl_model.specs.Queues.{Config, capacity_on, is_queue, may_use}
 use Rattle.ynl_laws.proofs.Logic.{and-false}
-use Rattle.ynl_layout.specs.Paths.{path_at}
-use Rattle.ynl_layout.specs.settings.Meaning.{stops_of}
-use Rattle.ynl_layout.proofs.settings.StopsMean.{other-path, own-path}
+use Rattle.ynl_inventory.specs.layout.Paths.{path_at}
+use Rattle.ynl_inventory.specs.layout.settings.Meaning.{stops_of}
+use Rattle.ynl_inventory.proofs.layout.settings.StopsMean.{other-path, own-path}
 use Rattle.ynl_inventory.specs.Sound.{IsFor, IsSound}
 use Rattle.ynl_cluster.specs.Cluster.{ClusterView, state_in}
-use Rattle.ynl_admission.specs.Named.{IsQueueOf}
+use Rattle.ynl_replies.specs.admission.Named.{IsQueueOf}
 use Rattle.ynl_saved.specs.declared.lines.StateLine.TheVariants.{Maximum, Stopped}
 use Rattle.ynl_saved.specs.Restoring.{is_sound_line, Restored}
 

@@ -37,8 +37,8 @@ use Rattle.ynl_inventory.specs.Sound.{HasPartition, IsAskedOn, IsFor, IsSound}
 use Rattle.ynl_inventory.proofs.Asking.{same-ask}
 use Rattle.ynl_inventory.proofs.Finding.{not-true as unless}
 use Rattle.ynl_cluster.specs.Cluster.{ClusterView, label_of, maxima_in, path_of, state_in, stops_in}
-use Rattle.ynl_admission.proofs.FirstReasons.{first-ask}
-use Rattle.ynl_admission.proofs.LabelsKnown.{label-known}
+use Rattle.ynl_replies.proofs.admission.FirstReasons.{first-ask}
+use Rattle.ynl_replies.proofs.admission.LabelsKnown.{label-known}
 use Rattle.ynl_replies.proofs.Apps.{app-is}
 use Rattle.ynl_saved.specs.declared.lines.StateLine.TheVariants.{Ask as AskLine}
 use Rattle.ynl_saved.specs.Restoring.{asks_on, is_given, is_sound_line, may_ask, with_ask, Restored}

@@ -17,7 +17,7 @@ use Rattle.ynl_laws.proofs.Lists.{Each-map, Each-weaker, filter-nothing}
 use Rattle.ynl_laws.proofs.Names.{same-name_sym, same-path}
 use Rattle.ynl_tables.specs.declared.containers.container.Container.{Container}
 use Rattle.ynl_tables.specs.declared.submissions.submissions.Submission.{Submission}
-use Rattle.ynl_layout.specs.Paths.{HasNumber, path_at}
+use Rattle.ynl_inventory.specs.layout.Paths.{HasNumber, path_at}
 use Rattle.ynl_inventory.specs.Meaning.{application_of, leaf_numbers, leaf_of, live_of, owner_of, partition_of, placed_of, submitted_in, tenant_at}
 use Rattle.ynl_inventory.specs.Rows.{AppRow, PartitionRow}
 use Rattle.ynl_inventory.specs.Sound.{IsSound}

@@ -21,7 +21,7 @@ use Rattle.ynl_inventory.specs.declared.partition.Placement.{Placement}
 use Rattle.ynl_inventory.proofs.Lookups.{place-there}
 use Rattle.ynl_inventory.proofs.Tenants.{owner-named}
 use Rattle.ynl_cluster.specs.Cluster.{ClusterView, label_of, state_in}
-use Rattle.ynl_admission.specs.Named.{IsAppNamed, IsPartitionOf}
+use Rattle.ynl_replies.specs.admission.Named.{IsAppNamed, IsPartitionOf}
 use Rattle.ynl_saved.specs.declared.lines.StateLine.TheVariants.{Container as ContainerLine}
 use Rattle.ynl_saved.specs.Restoring.{is_given, is_sound_line, last_clock, may_have, may_stand, Restored}
 use Rattle.ynl_saved.proofs.Leaved.{found-name}

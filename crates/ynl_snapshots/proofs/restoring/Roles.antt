@@ -23,7 +23,7 @@ use Rattle.ynl_cluster.specs.Cluster.{ClusterView, label_of, maxima_in, state_in
 use Rattle.ynl_cluster.proofs.requests.Running.{runs-means}
 use Rattle.ynl_saved.specs.Restoring.{asks_on, may_have}
 use Rattle.ynl_saved.proofs.Served.{same-number_self}
-use Rattle.ynl_admission.specs.Named.{IsPartitionOf}
+use Rattle.ynl_replies.specs.admission.Named.{IsPartitionOf}
 use Rattle.ynl_snapshots.proofs.restoring.NewAsks.{home-known}
 
 default-same : (label : Label) → is_default label ≡ same_label label Unlabelled

@@ -11,7 +11,7 @@ use Rattle.ynl_inventory.specs.Parts.{free_of}
 use Rattle.ynl_inventory.specs.Sound.{IsSound}
 use Rattle.ynl_inventory.proofs.Lookups.{place-there}
 use Rattle.ynl_cluster.specs.Cluster.{ClusterView, label_of, maxima_in, state_in, stops_in}
-use Rattle.ynl_admission.specs.Named.{IsNodeNamed}
+use Rattle.ynl_replies.specs.admission.Named.{IsNodeNamed}
 use Rattle.ynl_search.proofs.FreeMeans.{free-means}
 use Rattle.ynl_saved.specs.Restoring.{is_given, last_clock, may_stand}
 use Rattle.ynl_saved.proofs.Sound.{nat-le}

@@ -26,7 +26,7 @@ use Rattle.ynl_inventory.proofs.Lookups.{at-same, length-at}
 use Rattle.ynl_inventory.proofs.Naming.{label-at}
 use Rattle.ynl_inventory.proofs.Updates.{each-number}
 use Rattle.ynl_cluster.specs.Cluster.{ClusterView, label_of, state_in}
-use Rattle.ynl_admission.specs.Named.{IsPartitionOf}
+use Rattle.ynl_replies.specs.admission.Named.{IsPartitionOf}
 use Rattle.ynl_saved.specs.declared.lines.StateLine.TheVariants.{Node as NodeLine}
 use Rattle.ynl_saved.specs.Restoring.{is_sound_line, with_node, Restored}
 use Rattle.ynl_snapshots.proofs.restoring.Clocks.{as-it-is, clocks-own, twice}

@@ -6,8 +6,8 @@ use Rattle.ynl_resource.specs.declared.paths.Path.{Path}
 use Rattle.ynl_model.specs.declared.queues.StopRow.{StopRow}
 use Rattle.ynl_model.specs.Queues.{set_stop}
 use Rattle.ynl_laws.proofs.Lists.{Each-weaker}
-use Rattle.ynl_layout.specs.settings.Meaning.{stops_of}
-use Rattle.ynl_layout.proofs.settings.StopsMean.{own-path}
+use Rattle.ynl_inventory.specs.layout.settings.Meaning.{stops_of}
+use Rattle.ynl_inventory.proofs.layout.settings.StopsMean.{own-path}
 
 -- a row whose queue runs
 abbrev pub started : StopRow → StopRow

@@ -20,7 +20,7 @@ use Rattle.ynl_laws.specs.Working.{clock_in, has_row}
 use Rattle.ynl_laws.proofs.Lists.{Each-weaker, filter-nothing}
 use Rattle.ynl_laws.proofs.Logic.{and-false}
 use Rattle.ynl_cluster.specs.Cluster.{ClusterView, state_in}
-use Rattle.ynl_admission.specs.declared.queues.CellNumbers.{CellNumbers}
+use Rattle.ynl_replies.specs.declared.admission.queues.CellNumbers.{CellNumbers}
 use Rattle.ynl_saved.specs.declared.lines.StateLine.{StateLine}
 use Rattle.ynl_saved.specs.declared.lines.StateLine.TheVariants.{Ask, Container, End, Node, Partition}
 use Rattle.ynl_saved.specs.Restoring.{Restored, is_sound_line, maxima_of, partitions_of, restored_with, with_line}

@@ -9,7 +9,7 @@ use Rattle.ynl_resource.specs.Names.{tenant_of}
 use Rattle.ynl_resource.specs.declared.labels.Label.{Label}
 use Rattle.ynl_resource.specs.declared.names.Name.{Name}
 use Rattle.ynl_resource.specs.declared.paths.Path.{Path}
-use Rattle.ynl_layout.specs.Paths.{HasNumber, path_at}
+use Rattle.ynl_inventory.specs.layout.Paths.{HasNumber, path_at}
 use Rattle.ynl_tables.specs.declared.apps.asks.Ask.{Ask}
 use Rattle.ynl_tables.specs.declared.submissions.submissions.Submission.{Submission}
 use Rattle.ynl_inventory.specs.Rows.{Rows, AppRow}

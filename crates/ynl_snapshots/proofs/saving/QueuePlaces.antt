@@ -9,8 +9,8 @@ use Rattle.ynl_resource.specs.declared.paths.Path.{Path}
 use Rattle.ynl_model.specs.Nodes.{partition_labels}
 use Rattle.ynl_model.specs.Queues.{QueueRow}
 use Rattle.ynl_model.specs.declared.queues.StopRow.{StopRow}
-use Rattle.ynl_layout.specs.settings.Meaning.{stops_of}
-use Rattle.ynl_layout.specs.Paths.{HasNumber, paths_of}
+use Rattle.ynl_inventory.specs.layout.settings.Meaning.{stops_of}
+use Rattle.ynl_inventory.specs.layout.Paths.{HasNumber, paths_of}
 use Rattle.ynl_inventory.specs.Rows.{PartitionRow}
 use Rattle.ynl_inventory.specs.Sound.{HasPartition, IsFor}
 use Rattle.ynl_inventory.proofs.Lookups.{place-there}

@@ -10,7 +10,7 @@ use Rattle.std.specs.Option.{IsSome}
 use Rattle.ynl_model.specs.declared.containers.Placed.{Placed}
 use Rattle.ynl_model.specs.declared.nodes.Node.{Node}
 use Rattle.ynl_tables.specs.declared.containers.container.Container.{Container}
-use Rattle.ynl_admission.proofs.Submitting.{leaf-told as configured-leaf}
+use Rattle.ynl_replies.proofs.admission.Submitting.{leaf-told as configured-leaf}
 use Rattle.ynl_replies.proofs.Following.{each-held}
 use Rattle.ynl_resource.specs.Names.{root, same_name}
 use Rattle.ynl_resource.specs.declared.labels.Label.{Label}
@@ -21,7 +21,7 @@ use Rattle.ynl_model.specs.Applications.{LeafApps, find_app}
 use Rattle.ynl_model.specs.Cluster.{Partition}
 use Rattle.ynl_model.specs.Queues.{QueueRow, is_leaf}
 use Rattle.ynl_tables.proofs.containers.Removing.{at_live}
-use Rattle.ynl_layout.specs.Paths.{path_at}
+use Rattle.ynl_inventory.specs.layout.Paths.{path_at}
 use Rattle.ynl_tables.specs.declared.submissions.submissions.Submission.{Submission}
 use Rattle.ynl_inventory.specs.Rows.{Rows, NodeRow, PartitionRow, AppRow}
 use Rattle.ynl_inventory.specs.Apps.{containers_of}

@@ -17,7 +17,7 @@ use Rattle.ynl_inventory.specs.Rows.{AppRow, PartitionRow}
 use Rattle.ynl_inventory.specs.Sound.{MayHave}
 use Rattle.ynl_inventory.specs.declared.partition.Placement.{Placement}
 use Rattle.ynl_cluster.specs.Cluster.{ClusterView, label_of, state_in, stood_in}
-use Rattle.ynl_admission.specs.Named.{IsNodeNamed, IsPartitionOf}
+use Rattle.ynl_replies.specs.admission.Named.{IsNodeNamed, IsPartitionOf}
 use Rattle.ynl_saved.specs.Restoring.{last_clock}
 
 -- what a container's line asks of the state before it: live applications are found, and no stamp is above its partition's clock

@@ -6,10 +6,10 @@ use Rattle.ynl_inventory.specs.Meaning.{app_of, node_number, submitted_to, tenan
 use Rattle.ynl_cluster.specs.Cluster.{ClusterView, label_of, state_in}
 use Rattle.ynl_model.specs.declared.applications.AskRow.{AskRow}
 use Rattle.ynl_model.specs.Applications.{find_ask}
-use Rattle.ynl_admission.specs.declared.applications.Asking.{Asking}
-use Rattle.ynl_admission.specs.Admitted.{CanAskAs}
-use Rattle.ynl_admission.specs.Named.{IsPartitionOf, IsQueueOf}
-use Rattle.ynl_layout.specs.Paths.{HasNumber}
+use Rattle.ynl_replies.specs.declared.admission.applications.Asking.{Asking}
+use Rattle.ynl_replies.specs.admission.Admitted.{CanAskAs}
+use Rattle.ynl_replies.specs.admission.Named.{IsPartitionOf, IsQueueOf}
+use Rattle.ynl_inventory.specs.layout.Paths.{HasNumber}
 use Rattle.ynl_tables.specs.submissions.Submissions.{turn_of}
 use Rattle.ynl_resource.specs.declared.names.Name.{Name}
 use Rattle.ynl_resource.specs.declared.paths.Path.{Path}

@@ -8,9 +8,9 @@ use Rattle.ynl_resource.specs.declared.paths.Path.{Path}
 use Rattle.ynl_model.specs.Accepted.{is_accepted}
 use Rattle.ynl_model.specs.Nodes.{partition_labels}
 use Rattle.ynl_model.specs.Queues.{Config}
-use Rattle.ynl_layout.specs.Paths.{HasNumber, path_at, paths_of}
+use Rattle.ynl_inventory.specs.layout.Paths.{HasNumber, path_at, paths_of}
 use Rattle.ynl_cluster.specs.Cluster.{ClusterView, state_in}
-use Rattle.ynl_admission.specs.declared.queues.CellNumbers.{CellNumbers}
+use Rattle.ynl_replies.specs.declared.admission.queues.CellNumbers.{CellNumbers}
 use Rattle.ynl_saved.specs.declared.lines.StateLine.{StateLine}
 use Rattle.ynl_saved.specs.Restoring.{Restored, is_sound_line, restored_with}
 use Rattle.ynl_saved.proofs.Restored.{IsRestored}

@@ -6,15 +6,15 @@ ghost use Rattle.ynl_model.specs.Accepted.{is_accepted};
 ghost use Rattle.ynl_cluster.specs.Cluster.{state_in};
 ghost use Rattle.ynl_saved.specs.declared.lines.StateLine.TheVariants.{Finished, Live};
 ghost use Rattle.ynl_saved.specs.Restoring.{is_sound_line, may_come, Restored};
-ghost use Rattle.ynl_admission.specs.Admitted.{CanSubmitAs};
+ghost use Rattle.ynl_replies.specs.admission.Admitted.{CanSubmitAs};
 ghost use Rattle.ynl_snapshots.specs.restoring.Taking.{Comes, Takes};
 
 use std::alloc::AllocError;
-use ynl_admission::{
-    SubmissionNumbers, has_most_apps, is_too_large, partition_of, queue_of, tenant_of_leaf,
-};
 use ynl_cluster::Cluster;
 use ynl_inventory::NewSubmission;
+use ynl_replies::admission::{
+    SubmissionNumbers, has_most_apps, is_too_large, partition_of, queue_of, tenant_of_leaf,
+};
 use ynl_resource::{Label, Name, Path, Size};
 
 /// A leaf and its tenant, each by its number.

@@ -7,9 +7,9 @@ ghost use Rattle.ynl_saved.specs.Restoring.{is_sound_line, Restored};
 ghost use Rattle.ynl_snapshots.specs.restoring.Taking.{AsksAnew, Takes};
 
 use std::alloc::AllocError;
-use ynl_admission::{Asking, app_named, ask};
 use ynl_cluster::Cluster;
 use ynl_model::AskRow;
+use ynl_replies::admission::{Asking, app_named, ask};
 use ynl_resource::Name;
 
 /// The application that a line says asks, and for what, if the line goes with those before it.

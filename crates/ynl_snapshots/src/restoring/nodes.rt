@@ -10,9 +10,9 @@ ghost use Rattle.ynl_saved.specs.Restoring.{is_sound_line, Restored};
 ghost use Rattle.ynl_snapshots.specs.restoring.Taking.{Joins, Takes};
 
 use std::alloc::AllocError;
-use ynl_admission::partition_of;
 use ynl_cluster::Cluster;
 use ynl_model::Node;
+use ynl_replies::admission::partition_of;
 
 /// The partition that a line's node joins and what its clock shows, if the line goes with those before
 /// it, one of which told the partition.

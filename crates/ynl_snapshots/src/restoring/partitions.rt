@@ -9,8 +9,8 @@ ghost use Rattle.ynl_saved.specs.declared.lines.StateLine.TheVariants.{Partition
 ghost use Rattle.ynl_saved.specs.Restoring.{Restored};
 ghost use Rattle.ynl_snapshots.specs.restoring.Taking.{Takes};
 
-use ynl_admission::partition_of;
 use ynl_cluster::Cluster;
+use ynl_replies::admission::partition_of;
 use ynl_resource::Label;
 
 /// Takes the line of a partition that had none and where no node stands, if it goes with those before it.

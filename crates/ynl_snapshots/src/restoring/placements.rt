@@ -19,10 +19,10 @@ ghost use Rattle.ynl_snapshots.specs.restoring.Placing.{AreLasts, IsAskedAs, IsP
 ghost use Rattle.ynl_snapshots.specs.restoring.Taking.{Takes};
 
 use std::alloc::AllocError;
-use ynl_admission::{app_named, is_too_large, node_named, partition_of};
 use ynl_cluster::Cluster;
 use ynl_inventory::{Inventory, Placement};
 use ynl_model::{Placed, What};
+use ynl_replies::admission::{app_named, is_too_large, node_named, partition_of};
 use ynl_resource::{Label, Size};
 use ynl_tables::containers::Role;
 

@@ -7,12 +7,12 @@ ghost use Rattle.ynl_model.specs.Accepted.{is_accepted};
 ghost use Rattle.ynl_cluster.specs.Cluster.{state_in};
 ghost use Rattle.ynl_saved.specs.declared.lines.StateLine.TheVariants.{Maximum, Stopped};
 ghost use Rattle.ynl_saved.specs.Restoring.{is_sound_line, Restored};
-ghost use Rattle.ynl_admission.specs.Named.{IsBelowRoot, IsCellBelowRoot};
+ghost use Rattle.ynl_replies.specs.admission.Named.{IsBelowRoot, IsCellBelowRoot};
 ghost use Rattle.ynl_snapshots.specs.restoring.Taking.{Takes};
 ghost use Rattle.ynl_snapshots.specs.restoring.Telling.{AreMaxima};
 
-use ynl_admission::{CellNumbers, partition_of, queue_of};
 use ynl_cluster::Cluster;
+use ynl_replies::admission::{CellNumbers, partition_of, queue_of};
 use ynl_resource::{Hundredths, Label, Path};
 
 /// The queue that a line says is stopped, if the line goes with those before it.

@@ -17,8 +17,8 @@ ghost use Rattle.ynl_saved.specs.Saving.{leaf_lines, live_lines};
 ghost use Rattle.ynl_snapshots.specs.saving.Told.{queue_lines, submission_lines};
 
 use crate::saving::lines::{ask_line, live_line};
-use ynl_admission::tenant_of_leaf;
 use ynl_cluster::Cluster;
+use ynl_replies::admission::tenant_of_leaf;
 use ynl_replies::path_of;
 use ynl_saved::{LineSink, StateLine};
 

@@ -2,7 +2,7 @@
 
 ghost use Rattle.std.specs.Prelude.{◌≡◌, ◌<◌, ◌-◌, flat_map, slice_get, IsSome, Some};
 ghost use Rattle.ynl_model.specs.declared.queues.StopRow.{StopRow};
-ghost use Rattle.ynl_layout.specs.Paths.{HasNumber};
+ghost use Rattle.ynl_inventory.specs.layout.Paths.{HasNumber};
 ghost use Rattle.ynl_cluster.specs.Cluster.{label_of, path_of, state_in, IsCell};
 ghost use Rattle.ynl_saved.specs.Handing.{Hands};
 ghost use Rattle.ynl_saved.specs.Saving.{maxima_lines, maximum_lines, stop_lines};

@@ -2,7 +2,7 @@
 use Rattle.std.proofs.Common.{◌∷◌, subst}
 use Rattle.ynl_resource.specs.Names.{root}
 use Rattle.ynl_laws.specs.Ways.{IsWay}
-use Rattle.ynl_layout.specs.Paths.{is_above, IsLine}
+use Rattle.ynl_inventory.specs.layout.Paths.{is_above, IsLine}
 use Rattle.ynl_cluster.proofs.Lines.{line-begins}
 use Rattle.ynl_cluster.proofs.ways.way_to.Goals as goal
 

@@ -1,7 +1,7 @@
 use Rattle.std.proofs.Common.{◌≡◌, ◌∙◌, List, ap, subst, arith}
 use Rattle.std.proofs.lemmas.Bool.Decides.{nat_tests}
 use Rattle.ynl_resource.specs.declared.paths.Path.{Path}
-use Rattle.ynl_layout.specs.Paths.{AreChildren, CoverBelow}
+use Rattle.ynl_inventory.specs.layout.Paths.{AreChildren, CoverBelow}
 use Rattle.ynl_inventory.specs.Parts.{Held}
 use Rattle.ynl_search.proofs.Below.{is-leaf}
 use Rattle.ynl_search.proofs.queues.is_leaf.Goals as goal

@@ -4,8 +4,8 @@ use Rattle.std.specs.Map.{lookup}
 use Rattle.ynl_resource.specs.declared.amounts.Resource.{Resource}
 use Rattle.ynl_inventory.specs.Parts.{app_row}
 use Rattle.ynl_inventory.specs.Sound.{IsLeaf}
-use Rattle.ynl_layout.specs.Paths.{HasNumber}
-use Rattle.ynl_admission.proofs.Submitting.{leaf-below}
+use Rattle.ynl_inventory.specs.layout.Paths.{HasNumber}
+use Rattle.ynl_replies.proofs.admission.Submitting.{leaf-below}
 use Rattle.ynl_search.specs.Leaves.{keeps_limit}
 use Rattle.ynl_search.specs.Places.{allows}
 use Rattle.ynl_service.proofs.Limiting.{leaf-is, limits-read}

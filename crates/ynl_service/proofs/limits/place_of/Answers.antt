@@ -2,7 +2,7 @@
 use Rattle.std.proofs.Common.{◌≡◌, sym, ap, subst, ◌∙◌, arith}
 use Rattle.std.specs.Prelude.{slice_index_or, List}
 use Rattle.ynl_resource.specs.declared.paths.Path.{Path}
-use Rattle.ynl_layout.specs.Paths.{IsChild, IsLine}
+use Rattle.ynl_inventory.specs.layout.Paths.{IsChild, IsLine}
 use Rattle.ynl_inventory.specs.Parts.{Held}
 use Rattle.ynl_search.proofs.Along.{next-below}
 use Rattle.ynl_service.proofs.limits.place_of.Goals as goal

@@ -3,7 +3,7 @@ use Rattle.std.specs.Prelude.{IfSome}
 use Rattle.std.specs.Map.{lookup}
 use Rattle.std.proofs.lemmas.Option.{same_Some}
 use Rattle.ynl_tables.proofs.containers.Removing.{at_live}
-use Rattle.ynl_layout.specs.Paths.{HasNumber}
+use Rattle.ynl_inventory.specs.layout.Paths.{HasNumber}
 use Rattle.ynl_inventory.specs.Meaning.{app_name, tenant_name, what_of}
 use Rattle.ynl_inventory.specs.Parts.{Held, app_row, node_row}
 use Rattle.ynl_inventory.specs.Rows.{AppRow}

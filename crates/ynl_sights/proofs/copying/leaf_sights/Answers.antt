@@ -2,7 +2,7 @@ use Rattle.std.proofs.Common.{ℕ, ◌≡◌, ◌≤◌, ◌∷◌, List, length
 use Rattle.std.specs.Prelude.{flat_map}
 use Rattle.ynl_resource.specs.Names.{root}
 use Rattle.ynl_resource.specs.declared.paths.Path.{Path}
-use Rattle.ynl_layout.specs.Paths.{HasNumber}
+use Rattle.ynl_inventory.specs.layout.Paths.{HasNumber}
 use Rattle.ynl_model.specs.Service.{Item}
 use Rattle.ynl_inventory.specs.Meaning.{leaf_numbers}
 use Rattle.ynl_inventory.specs.Rows.{AppRow}

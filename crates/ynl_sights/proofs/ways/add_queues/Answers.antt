@@ -4,7 +4,7 @@ use Rattle.std.proofs.lemmas.List.{append_assoc}
 use Rattle.std.specs.Prelude.{slice_index_or}
 use Rattle.ynl_resource.specs.Amounts.{nothing}
 use Rattle.ynl_resource.specs.declared.paths.Path.{Path}
-use Rattle.ynl_layout.specs.Paths.{IsChild, IsLine}
+use Rattle.ynl_inventory.specs.layout.Paths.{IsChild, IsLine}
 use Rattle.ynl_inventory.specs.Parts.{Held}
 use Rattle.ynl_cluster.specs.Cluster.{path_of}
 use Rattle.ynl_search.proofs.Along.{next-below}

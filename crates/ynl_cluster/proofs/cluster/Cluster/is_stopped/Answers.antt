@@ -1,7 +1,7 @@
 -- Whether a queue is stopped is the model's mark of it.
 use Rattle.std.proofs.Common.{◌-◌, ap, sym, ◌∙◌, slice_get, Some}
-use Rattle.ynl_layout.specs.Paths.{path_at, paths_of}
-use Rattle.ynl_layout.proofs.settings.StopsMean.{stops-at}
+use Rattle.ynl_inventory.specs.layout.Paths.{path_at, paths_of}
+use Rattle.ynl_inventory.proofs.layout.settings.StopsMean.{stops-at}
 use Rattle.ynl_cluster.specs.Cluster.{ClusterView, path_of, state_in}
 use Rattle.ynl_cluster.proofs.Reading.{in-paths}
 use Rattle.ynl_cluster.proofs.cluster.Cluster.is_stopped.Goals as goal

@@ -1,5 +1,5 @@
 use Rattle.std.proofs.Common.{◌≡◌, ◌+◌, true, Some, Ok, refl, rules, ap, sym, subst, ◌∙◌}
-use Rattle.ynl_evidence.specs.Evidence.{Placed}
+use Rattle.ynl_view.specs.evidence.Evidence.{Placed}
 use Rattle.ynl_lines.specs.Reading.{Gives}
 use Rattle.ynl_commands.specs.declared.evidence_audit.EvidenceAudit.{EvidenceAudit}
 use Rattle.ynl_commands.specs.Evidence.{placed_if, placed_said}

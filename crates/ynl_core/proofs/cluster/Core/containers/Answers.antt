@@ -8,7 +8,7 @@ use Rattle.ynl_inventory.specs.Rows.{PartitionRow}
 use Rattle.ynl_inventory.proofs.ContainersFound.{no-partition}
 use Rattle.ynl_inventory.proofs.Finding.{not-true}
 use Rattle.std.proofs.lemmas.Option.{slice_get_within}
-use Rattle.ynl_admission.proofs.LabelsKnown.{label-known}
+use Rattle.ynl_replies.proofs.admission.LabelsKnown.{label-known}
 use Rattle.ynl_cluster.specs.Cluster.{maxima_in, stops_in}
 use Rattle.ynl_core.specs.World.{World}
 use Rattle.ynl_core.proofs.cluster.Core.containers.Goals as goal

@@ -5,7 +5,7 @@ use Rattle.ynl_model.specs.declared.replies.Reply.TheVariants.{Done}
 use Rattle.ynl_model.specs.Applications.{in_leaf, new_app, submitted}
 use Rattle.ynl_model.specs.Events.{accepted, done}
 use Rattle.ynl_core.specs.Reached.{WorksAndIsTold}
-use Rattle.ynl_layout.specs.Paths.{path_at}
+use Rattle.ynl_inventory.specs.layout.Paths.{path_at}
 use Rattle.ynl_inventory.specs.Meaning.{label_at}
 use Rattle.ynl_cluster.specs.Cluster.{ClusterView, state_in}
 use Rattle.ynl_core.specs.World.{Answers, World}

@@ -3,7 +3,7 @@ use Rattle.std.proofs.Common.{◌≡◌, ℕ, [], ◌∷◌, map, nat_eq, length
 use Rattle.std.specs.Map.{lookup}
 use Rattle.std.proofs.lemmas.Option.{none-some}
 use Rattle.ynl_model.specs.Queues.{Config, QueueRow}
-use Rattle.ynl_layout.specs.Paths.{IsTree, paths_of}
+use Rattle.ynl_inventory.specs.layout.Paths.{IsTree, paths_of}
 use Rattle.ynl_model.specs.Nodes.{Labels, partition_labels}
 use Rattle.std.proofs.lemmas.List.{length-map}
 use Rattle.ynl_resource.specs.Names.{root}

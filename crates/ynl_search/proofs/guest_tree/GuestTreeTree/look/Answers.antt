@@ -1,7 +1,7 @@
 use Rattle.std.proofs.Common.{[], get_or, subst}
 use Rattle.ynl_resource.specs.declared.paths.Path.{Path}
 use Rattle.ynl_laws.specs.Decided.{below}
-use Rattle.ynl_layout.specs.Paths.{names_of}
+use Rattle.ynl_inventory.specs.layout.Paths.{names_of}
 use Rattle.ynl_cluster.specs.Cluster.{path_of, state_in}
 use Rattle.ynl_search.specs.Shut.{IsGuestless}
 use Rattle.ynl_search.specs.Scenes.{guest_scene, node_at}

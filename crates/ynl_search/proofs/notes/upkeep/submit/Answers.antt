@@ -2,7 +2,7 @@ use Rattle.std.proofs.Common.{◌≡◌, [], true, sym, subst, refl, ap, subst, 
 use Rattle.std.specs.Prelude.{slice_index_or}
 use Rattle.ynl_model.specs.Applications.{Application, new_app}
 use Rattle.ynl_resource.specs.declared.names.Name.{Name}
-use Rattle.ynl_layout.specs.Paths.{HasNumber, path_at}
+use Rattle.ynl_inventory.specs.layout.Paths.{HasNumber, path_at}
 use Rattle.ynl_inventory.specs.declared.submission.NewSubmission.{NewSubmission}
 use Rattle.ynl_inventory.specs.Meaning.{has_none_below}
 use Rattle.ynl_inventory.specs.Sound.{CanSubmit, IsLeaf}

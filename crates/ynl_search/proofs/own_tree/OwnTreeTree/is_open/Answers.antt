@@ -1,6 +1,6 @@
 use Rattle.std.proofs.Common.{[], get_or, subst}
 use Rattle.ynl_resource.specs.declared.amounts.Resource.{Resource}
-use Rattle.ynl_layout.specs.Paths.{names_of}
+use Rattle.ynl_inventory.specs.layout.Paths.{names_of}
 use Rattle.ynl_search.specs.Scenes.{IsPlaceOf, node_at}
 use Rattle.ynl_search.proofs.NodeIs.{label-is}
 use Rattle.ynl_search.proofs.ShutBelow.{closed-has-none}

@@ -1,6 +1,6 @@
 use Rattle.std.proofs.Common.{[], get_or, sym, subst, ◌∙◌}
 use Rattle.ynl_resource.specs.declared.amounts.Resource.{Resource}
-use Rattle.ynl_layout.specs.Paths.{names_of}
+use Rattle.ynl_inventory.specs.layout.Paths.{names_of}
 use Rattle.ynl_cluster.specs.Cluster.{label_of, path_of, state_in}
 use Rattle.ynl_search.specs.Shut.{IsRightIn}
 use Rattle.ynl_search.specs.Scenes.{IsPlaceOf, node_at, own_scene}

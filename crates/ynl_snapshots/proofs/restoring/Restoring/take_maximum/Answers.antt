@@ -1,7 +1,7 @@
 -- A maximum's line is taken.
 use Rattle.std.proofs.Common.{◌∙◌, ◌∷◌, List, false, true, ap, map, refl, subst, sym}
 use Rattle.ynl_model.specs.Cluster.{State}
-use Rattle.ynl_admission.specs.declared.queues.CellNumbers.{CellNumbers}
+use Rattle.ynl_replies.specs.declared.admission.queues.CellNumbers.{CellNumbers}
 use Rattle.ynl_saved.specs.declared.lines.StateLine.TheVariants.{Maximum}
 use Rattle.ynl_saved.specs.Restoring.{with_line}
 use Rattle.ynl_snapshots.specs.restoring.Placing.{last_of}

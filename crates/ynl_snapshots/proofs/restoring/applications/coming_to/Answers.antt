@@ -5,7 +5,7 @@ use Rattle.ynl_model.specs.Applications.{is_used}
 use Rattle.ynl_model.specs.Queues.{is_leaf}
 use Rattle.ynl_laws.proofs.Logic.{none-is}
 use Rattle.ynl_cluster.specs.Cluster.{path_of, state_in}
-use Rattle.ynl_admission.proofs.Submitting.{tenant-is}
+use Rattle.ynl_replies.proofs.admission.Submitting.{tenant-is}
 use Rattle.ynl_snapshots.proofs.restoring.Coming.{come-told, leaf-there, tenant-below, used-told}
 use Rattle.ynl_snapshots.proofs.restoring.applications.coming_to.Goals as goal
 

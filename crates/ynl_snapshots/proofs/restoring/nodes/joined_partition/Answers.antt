@@ -4,7 +4,7 @@ use Rattle.ynl_model.specs.Accepted.{is_from_to}
 use Rattle.ynl_model.specs.Cluster.{clock}
 use Rattle.ynl_model.specs.Nodes.{is_full}
 use Rattle.ynl_cluster.specs.Cluster.{state_in}
-use Rattle.ynl_admission.proofs.NodesNamed.{node-known}
+use Rattle.ynl_replies.proofs.admission.NodesNamed.{node-known}
 use Rattle.ynl_snapshots.proofs.restoring.Clocks.{clock-told}
 use Rattle.ynl_snapshots.proofs.restoring.Stamps.{later-stamp, no-stamp, node-sound, own-stamp}
 use Rattle.ynl_snapshots.proofs.restoring.nodes.joined_partition.Goals as goal

@@ -5,7 +5,7 @@ use Rattle.ynl_inventory.specs.Changes.{with_joined}
 use Rattle.ynl_inventory.specs.Sound.{CanShow, HasPartition}
 use Rattle.ynl_inventory.proofs.Lookups.{place-there}
 use Rattle.ynl_cluster.specs.Cluster.{ClusterView}
-use Rattle.ynl_admission.proofs.NodesNamed.{node-missing}
+use Rattle.ynl_replies.proofs.admission.NodesNamed.{node-missing}
 use Rattle.ynl_saved.specs.declared.lines.StateLine.TheVariants.{Node}
 use Rattle.ynl_saved.specs.Restoring.{with_line}
 use Rattle.ynl_snapshots.proofs.restoring.Clocks.{clock-read}

@@ -2,7 +2,7 @@
 use Rattle.std.proofs.Common.{◌≡◌, ◌≤◌, ◌∙◌, length, List, sym, ap, subst}
 use Rattle.std.proofs.lemmas.List.{length-map, take_all}
 use Rattle.ynl_model.specs.Queues.{Config, QueueRow}
-use Rattle.ynl_layout.specs.Paths.{paths_of}
+use Rattle.ynl_inventory.specs.layout.Paths.{paths_of}
 use Rattle.ynl_cluster.specs.Cluster.{state_in}
 use Rattle.ynl_snapshots.proofs.restoring.Started.{start, start-all}
 use Rattle.ynl_snapshots.proofs.restoring.starting.start_all.Goals as goal

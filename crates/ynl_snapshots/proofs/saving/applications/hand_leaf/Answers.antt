@@ -7,7 +7,7 @@ use Rattle.ynl_inventory.specs.Meaning.{submitted_to, tenant_at}
 use Rattle.ynl_inventory.proofs.Lookups.{place-there}
 use Rattle.ynl_saved.specs.Handing.{FailsAmong, TakesAll}
 use Rattle.ynl_saved.proofs.Handing.{fails-on, fails-part, takes-part, takes-parts}
-use Rattle.ynl_admission.proofs.Submitting.{tenant-is}
+use Rattle.ynl_replies.proofs.admission.Submitting.{tenant-is}
 use Rattle.ynl_snapshots.specs.saving.Told.{submission_lines}
 use Rattle.ynl_snapshots.proofs.saving.Rows.{leaf-told}
 use Rattle.ynl_snapshots.proofs.saving.Submissions.{same-entries}

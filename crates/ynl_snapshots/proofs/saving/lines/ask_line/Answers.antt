@@ -5,7 +5,7 @@ use Rattle.std.specs.Map.{lookup}
 use Rattle.std.proofs.lemmas.Option.{same_Some, slice_get_read}
 use Rattle.ynl_resource.specs.Names.{tenant_of}
 use Rattle.ynl_tables.specs.declared.apps.asks.Ask.{Ask}
-use Rattle.ynl_layout.specs.Paths.{HasNumber}
+use Rattle.ynl_inventory.specs.layout.Paths.{HasNumber}
 use Rattle.ynl_inventory.specs.Rows.{AppRow}
 use Rattle.ynl_inventory.specs.Meaning.{app_name, app_of, ask_of, label_at, tenant_name}
 use Rattle.ynl_inventory.specs.Parts.{Held, app_row}

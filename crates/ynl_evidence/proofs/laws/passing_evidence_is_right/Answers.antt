@@ -1,5 +1,0 @@
-use Rattle.ynl_evidence.proofs.Right.{flawless_is_right}
-use Rattle.ynl_evidence.proofs.laws.passing_evidence_is_right.Goals as goal
-
-pub returns : goal.returns
-returns c = flawless_is_right

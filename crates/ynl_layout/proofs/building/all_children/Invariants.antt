@@ -1,7 +1,0 @@
-use Rattle.ynl_layout.specs.Building.{paths_by}
-use Rattle.ynl_layout.specs.Paths.{AreChildren, HasNumber}
-use Rattle.ynl_layout.proofs.Filled.{Hold}
-use Rattle.ynl_layout.proofs.building.all_children.Given as goal
-
-abbrev pub invariant-loop-queue : goal.invariant-loop-queue
-invariant-loop-queue l = Hold (λ n list. HasNumber (paths_by l.lines l.names) n → AreChildren (paths_by l.lines l.names) n list.items) l.queue l.all.items

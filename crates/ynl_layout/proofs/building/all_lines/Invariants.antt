@@ -1,7 +1,0 @@
-use Rattle.std.proofs.Common.{◌+◌}
-use Rattle.ynl_layout.proofs.Lines.{HasLine}
-use Rattle.ynl_layout.proofs.Filled.{Hold}
-use Rattle.ynl_layout.proofs.building.all_lines.Given as goal
-
-abbrev pub invariant-loop-place : goal.invariant-loop-place
-invariant-loop-place l = Hold (HasLine l.config) (l.place + 1) l.lines.items

@@ -1,8 +1,0 @@
-//! The queues of a configuration under numbers: root is 0, and the others follow in its order.
-#![tactic(auto)]
-
-pub use layout::Layout;
-
-mod building;
-mod layout;
-pub mod settings;

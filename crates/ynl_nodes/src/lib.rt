@@ -1,7 +1,0 @@
-//! Nodes in the order of joining: found by name, and counted by label.
-#![tactic(auto)]
-
-pub use nodes::Nodes;
-
-mod counts;
-mod nodes;

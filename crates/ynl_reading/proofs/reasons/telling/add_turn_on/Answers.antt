@@ -1,7 +1,0 @@
-use Rattle.std.proofs.Common.{sym}
-use Rattle.ynl_reading.specs.reasons.Facts.{IsSpotOf}
-use Rattle.ynl_reading.proofs.reasons.Firsts.{first-holds}
-use Rattle.ynl_reading.proofs.reasons.telling.add_turn_on.Goals as goal
-
-pub choice_on-requires-clause-spot : goal.choice_on-requires-clause-spot
-choice_on-requires-clause-spot g c = first-holds (IsSpotOf (g.F.Facts.state c.args.facts.now)) c.args.there.now c.in-Some.first.now c.requires.spots (sym c.in-Some.ensures)

@@ -1,5 +1,0 @@
-use Rattle.ynl_session.specs.Handed.{AddsRounds}
-use Rattle.ynl_session.proofs.handing.Handed.run_rounds.Given as goal
-
-abbrev pub invariant-loop : goal.invariant-loop
-invariant-loop g l = AddsRounds (g.G.Gate.is_free l.gate) l.nodes l.counter l.fn.self.lists.items l.self.lists.items

@@ -1,5 +1,0 @@
-use Rattle.std.proofs.Common.{◌≡◌, vec_len}
-use Rattle.ynl_session.proofs.handing.split_seats.Given as goal
-
-abbrev pub invariant-loop : goal.invariant-loop
-invariant-loop l = vec_len l.seats ≡ l.counter

@@ -1,0 +1,2 @@
+pub mod nodes
+pub mod evidence
